@@ -1,0 +1,40 @@
+use crate::slot::Key;
+use crate::slot::Slot;
+ghost use mathlib.Core.Path.{_≡_};
+ghost use Prim.Native.Nat.{ℕ, _+_, _-_, _<_, _≤_};
+ghost use lib.ListN.{length, getD, set};
+ghost use Rattle.table.specs.Slots.{around, stops, Nearest};
+
+pub fn is_stop<K: Key, V: Copy>(x: Slot<K, V>, k: K) -> bool
+    ensures { λ r. ⌜ r ≡ stops (K·Key .same) k x ⌝ }
+{
+    match x {
+        Slot::Empty => true,
+        Slot::Freed => false,
+        Slot::Used(a, _) => a.same_as(k),
+    }
+}
+
+// The place after `at`, going round `n` places.
+pub fn next(at: usize, n: usize) -> usize
+    requires { ⌜ at < n ⌝ }
+    ensures is { λ r. ⌜ r ≡ around n at 1 ⌝ }
+    ensures below { λ r. ⌜ r < n ⌝ }
+{
+    if at + 1 < n { at + 1 } else { 0 }
+}
+
+pub fn seek<K: Key, V: Copy>(slots: &[Slot<K, V>], start: usize, k: K) -> Option<usize>
+    requires { ⌜ start < length (now slots) ⌝ }
+    ensures { λ r. ⌜ Nearest (K·Key .same) (now (slots .entry)) start k r ⌝ }
+{
+    let n = slots.len();
+    let mut at = start;
+    for d in 0..n {
+        if is_stop(slots[at], k) {
+            return Some(at);
+        }
+        at = next(at, n);
+    }
+    None
+}
