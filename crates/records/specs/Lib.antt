@@ -1,0 +1,4 @@
+pub mod Ids
+pub mod Keys
+pub mod Causes
+pub mod Received
