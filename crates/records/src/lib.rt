@@ -1,10 +1,10 @@
 //! The records that the endpoint's calls take and give.
-pub mod bytes;
-pub mod shared;
 pub mod address;
-pub mod token;
-pub mod config;
-pub mod packet;
-pub mod incoming;
+pub mod bytes;
 pub mod cause;
+pub mod config;
+pub mod incoming;
 pub mod keys;
+pub mod packet;
+pub mod shared;
+pub mod token;

@@ -17,9 +17,9 @@ returns-in-Some g c =
 
 pub returns-then-n-eq0 : need.returns-then-n-eq0
 returns-then-n-eq0 g c =
-    record
-    { reached = c .pre
-    ; done = (refl, lookup-absent (g .K·Key .same) (c .args .slots .now) (c .args .k) (c .in-rest .ensures tt), used-full (c .args .slots .now) (λ j h. absurd (omega arith)))
+    record {
+      reached = c .pre;
+      done = (refl, lookup-absent (g .K·Key .same) (c .args .slots .now) (c .args .k) (c .in-rest .ensures tt), used-full (c .args .slots .now) (λ j h. absurd (omega arith)));
     }
 
 pub returns-in-Some-vacant : need.returns-in-Some-vacant
@@ -27,14 +27,14 @@ returns-in-Some-vacant g c =
     let s = c .args .slots .now in
     let P : ℕ → Type 0 = λ o. Vacant s o (Some (c .in-Some-vacant .p)) in
     let w = put-new (g .K·Key .same) (g .K·Key·met .exact) (g .K·Key·met .alike) Full (g .K·Key .code) s (c .args .k) (c .args .v) (c .in-Some-vacant .p) (spread (g .K·Key .same) (g .K·Key .code) (c .args .slots .now) (c .pre))
-            (c .in-rest .ensures tt) (subst P (c .home-of .ensures .is) (c .in-Some-vacant .ensures tt)) in
+    (c .in-rest .ensures tt) (subst P (c .home-of .ensures .is) (c .in-Some-vacant .ensures tt)) in
     record { reached = joined _ _ _ (w .0); done = w .1 }
 
 pub returns-in-None : need.returns-in-None
 returns-in-None g c =
-    record
-    { reached = c .pre
-    ; done =
-        put-full (g .K·Key .same) (g .K·Key·met .exact) (g .K·Key·met .alike) {E = Full} (c .args .slots .now) (c .args .k) (c .args .v) (c .home-of .result) (record {})
-        (c .home-of .ensures .below) (c .in-rest .ensures tt) (c .in-None .ensures tt)
+    record {
+      reached = c .pre;
+      done =
+          put-full (g .K·Key .same) (g .K·Key·met .exact) (g .K·Key·met .alike) {E = Full} (c .args .slots .now) (c .args .k) (c .args .v) (c .home-of .result) (record {})
+          (c .home-of .ensures .below) (c .in-rest .ensures tt) (c .in-None .ensures tt);
     }

@@ -14,9 +14,9 @@ pub returns-in-Some : need.returns-in-Some
 returns-in-Some g c =
     let e = c .in-Some .ensures tt in
     let w = remove-known (g .K·Key .same) (g .K·Key·met .exact) (g .K·Key·met .alike) (g .K·Key .code) (c .args .slots .now) (c .args .k) _ _ (spread _ _ _ (c .pre)) (e .0) (e .1) in
-    record
-    { reached = c .tidy .ensures .tidied .reached
-    ; done = removed-tidied (g .K·Key .same) (g .K·Key·met .exact) (g .K·Key·met .alike) (g .K·Key .code) (c .args .slots .now) _ (c .tidy .last .slots) (c .args .k) _ (w .1) (c .tidy .ensures .tidied)
+    record {
+      reached = c .tidy .ensures .tidied .reached;
+      done = removed-tidied (g .K·Key .same) (g .K·Key·met .exact) (g .K·Key·met .alike) (g .K·Key .code) (c .args .slots .now) _ (c .tidy .last .slots) (c .args .k) _ (w .1) (c .tidy .ensures .tidied);
     }
 
 pub returns-in-None : need.returns-in-None

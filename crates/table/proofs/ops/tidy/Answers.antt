@@ -23,6 +23,7 @@ loop-turn-again g c =
     let al : around (length t) at 1 < length t = around-less (length t) at 1 il (omega arith) in
     let af : c .next-after .result ≡ around (length t) at 1 = c .next-after .ensures .is ∙ ap (λ n. around n at 1) (sym lg) in
     let fr = sym (getD-read t at (c .index-slots-at .result) il (c .index-slots-at .is) Empty) ∙ c .is-freed .ensures (c .if-not-is-freed .left) in
-    let em = sym (getD-read t (c .next-after .result) (c .index-slots-after .result) (omega arith) (c .index-slots-after .is) Empty) ∙ c .is-empty .ensures (c .if-not-is-empty .left) in
-    ( c .prev-at .ensures
-    , tidied-more (g .K·Key .same) (g .K·Key·met .exact) (g .K·Key·met .alike) (g .K·Key .code) s t at il (inv .1) fr (ap (λ i. getD t i Empty) (sym af) ∙ em))
+    let em = sym (getD-read t (c .next-after .result) (c .index-slots-after .result) (omega arith) (c .index-slots-after .is) Empty) ∙ c .is-empty .ensures (c .if-not-is-empty .left) in (
+      c .prev-at .ensures,
+      tidied-more (g .K·Key .same) (g .K·Key·met .exact) (g .K·Key·met .alike) (g .K·Key .code) s t at il (inv .1) fr (ap (λ i. getD t i Empty) (sym af) ∙ em),
+    )
