@@ -208,16 +208,17 @@ module _ {K V : Type 0} (same : K → K → Bool) (exact : (a b : K) → same a 
       with-set s k p (Used k v) pl one old (λ i f. answer-other k i v f) j ∙ ap (λ o. cond (same k j) o (lookup same s j)) (answer-own k v)
 
   -- A new value for a key that stands at p.
-  pub put-known : (E : Type 0) (code : K → ℕ) (s : List (Slot K V)) (k : K) (v old : V) (p : ℕ) → Reach same code s → p < length s → getD s p Empty ≡ Used k old
-      → Reach same code (set s p (Used k v)) × Put {E = E} same s (set s p (Used k v)) k v (Ok (Some old))
-  put-known E code s k v old p r pl e =
+  pub put-known : (E : Type 0) (code : K → ℕ) (s : List (Slot K V)) (k : K) (v old : V) (p : ℕ) → p < length s → getD s p Empty ≡ Used k old
+      → Reached same code s → Reached same code (set s p (Used k v)) × Put {E = E} same s (set s p (Used k v)) k v (Ok (Some old))
+  put-known E code s k v old p pl e h =
+      let r = spread same code s h in
       let hl : (a : K) → home (length s) (code a) < length s = λ a. mod-lt (code a) (omega arith) in
       let one = alone code s k p old r pl e in
       let t = around-to (length s) (home (length s) (code k)) p (hl k) pl in
       let e′ = ap (λ i. getD s i Empty) (sym (t .2)) ∙ e in
       let u = used-set s p (Used k v) pl in
       let w : weight (getD s p Empty) ≡ 1 = ap weight e in (
-        reached-put code s k v (t .0) p (t .1) hl r (t .2) (r k old (t .0) (t .1) e′) one,
+        joined same code (set s p (Used k v)) (reached-put code s k v (t .0) p (t .1) hl r (t .2) (r k old (t .0) (t .1) e′) one),
         (
           sym (stands-lookup code s k p old r pl e),
           with-put s k v p pl one (λ j f. ap (answer same j) e ∙ answer-other k j old f),
@@ -227,16 +228,16 @@ module _ {K V : Type 0} (same : K → K → Bool) (exact : (a b : K) → same a 
       )
 
   -- A new key at the nearest place that holds none.
-  pub put-new : (E : Type 0) (code : K → ℕ) (s : List (Slot K V)) (k : K) (v : V) (p : ℕ) → Reach same code s
-      → ((j : ℕ) → j < length s → answer same k (getD s j Empty) ≡ None) → Vacant s (home (length s) (code k)) (Some p)
-      → Reach same code (set s p (Used k v)) × Put {E = E} same s (set s p (Used k v)) k v (Ok None)
-  put-new E code s k v p r no-key vac =
+  pub put-new : (E : Type 0) (code : K → ℕ) (s : List (Slot K V)) (k : K) (v : V) (p : ℕ) → Stands same code s k None → Vacant s (home (length s) (code k)) (Some p)
+      → Reached same code s → Reached same code (set s p (Used k v)) × Put {E = E} same s (set s p (Used k v)) k v (Ok None)
+  put-new E code s k v p absent vac h =
       let hl : (a : K) → home (length s) (code a) < length s = λ a. mod-lt (code a) (omega arith) in
       let d = vac .2 in
       let u = used-set s p (Used k v) (vac .0) in (
-        reached-put code s k v (d .0) p (d .1) hl r (d .2)
+        joined same code (set s p (Used k v))
+            (reached-put code s k v (d .0) p (d .1) hl (spread same code s h) (d .2)
             (λ e el. passes (getD s (around (length s) (home (length s) (code k)) e) Empty) (d .3 e el) (no-key _ (around-less _ _ e (hl k) (omega arith))))
-            one,
+            one),
         (
           sym (lookup-absent same s k no-key),
           with-put s k v p (vac .0) one (λ j f. unused j (getD s p Empty) (vac .1)),
@@ -245,6 +246,9 @@ module _ {K V : Type 0} (same : K → K → Bool) (exact : (a b : K) → same a 
         ),
       )
     where
+      no-key : (j : ℕ) → j < length s → answer same k (getD s j Empty) ≡ None
+      no-key = absent h
+
       one : (j : ℕ) (w : V) → j < length s → getD s j Empty ≡ Used k w → j ≡ p
       one j w jl e = let a = no-key j jl in let b = answer-own k w in let c = ap (answer same k) e in let z : _≡_ {A = ℕ} 0 1 = cc in absurd (omega arith)
 
@@ -261,12 +265,13 @@ module _ {K V : Type 0} (same : K → K → Bool) (exact : (a b : K) → same a 
       (refl, lookup-absent same s k no-key, used-full s (λ j jl. let t = around-to (length s) o j h jl in ap (λ i. weight (getD s i Empty)) (t .2) ∙ vac (t .0) (t .1)))
 
   -- The removal of a key that stands at p.
-  pub remove-known : (code : K → ℕ) (s : List (Slot K V)) (k : K) (v : V) (p : ℕ) → Reach same code s → p < length s → getD s p Empty ≡ Used k v
-      → Reach same code (set s p Freed) × Removed same s (set s p Freed) k (Some v)
-  remove-known code s k v p r pl e =
+  pub remove-known : (code : K → ℕ) (s : List (Slot K V)) (k : K) (v : V) (p : ℕ) → p < length s → getD s p Empty ≡ Used k v
+      → Reached same code s → Reached same code (set s p Freed) × Removed same s (set s p Freed) k (Some v)
+  remove-known code s k v p pl e h =
+      let r = spread same code s h in
       let u = used-set s p Freed pl in
       let w : weight (getD s p Empty) ≡ 1 = ap weight e in (
-        reached-free code s p pl (λ a. mod-lt (code a) (omega arith)) r,
+        joined same code (set s p Freed) (reached-free code s p pl (λ a. mod-lt (code a) (omega arith)) r),
         (
           sym (stands-lookup code s k p v r pl e),
           with-set s k p Freed pl (alone code s k p v r pl e) (λ j f. ap (answer same j) e ∙ answer-other k j v f) (λ j f. refl),

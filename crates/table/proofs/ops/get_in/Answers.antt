@@ -1,6 +1,6 @@
 use mathlib.Core.Path.{sym}
 use Rattle.table.proofs.Lookups.{lookup-absent}
-use Rattle.table.proofs.Tables.{spread, joined, stands-lookup}
+use Rattle.table.proofs.Tables.{spread, stands-lookup}
 use Rattle.table.proofs.ops.get_in.Needs as need
 
 pub returns-in-Some : need.returns-in-Some

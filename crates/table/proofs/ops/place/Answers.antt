@@ -5,7 +5,7 @@ use Rattle.std.proofs.shelf.Lists.{getD-read}
 use Rattle.std.specs.declared.option.Option.the-variants.{Some, None}
 use Rattle.table.specs.declared.slot.Slot.the-variants.{Empty}
 use Rattle.table.specs.Slots.{Nearest}
-use Rattle.table.proofs.Tables.{spread, joined, found, absent-none, absent-some}
+use Rattle.table.proofs.Tables.{spread, found, absent-none, absent-some}
 use Rattle.table.proofs.ops.place.Needs as need
 
 pub returns-in-Used : need.returns-in-Used
