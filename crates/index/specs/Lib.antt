@@ -1,0 +1,3 @@
+pub mod Entries
+pub mod Routes
+pub mod Changes
