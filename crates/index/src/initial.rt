@@ -17,7 +17,11 @@ ghost use Rattle.index.specs.Entries.{entry-after};
 ghost use Rattle.index.specs.Changes.{Changed};
 
 /// Takes an event in at the Initial entry of a client's identifier; an empty identifier has none.
-pub fn set_initial(initial: &mut Table<ConnectionId, RouteDatagramTo>, dst_cid: ConnectionId, event: InitialEvent)
+pub fn set_initial(
+    initial: &mut Table<ConnectionId, RouteDatagramTo>,
+    dst_cid: ConnectionId,
+    event: InitialEvent,
+)
     requires sound { ⌜ Sound same-id hash-id (now (now initial .slots)) (now initial .count) ⌝ }
     requires room { ⌜ now initial .count < length (now (now initial .slots)) ⌝ }
     ensures sound { λ _. ⌜ Sound same-id hash-id (now (now (initial .exit) .slots)) (now (initial .exit) .count) ⌝ }

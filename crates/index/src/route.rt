@@ -89,7 +89,10 @@ impl<'a> ConnectionIndex<'a> {
         }
         let token = last_16(bytes);
         let remote = datagram.addresses.remote;
-        to_connection(self.connection_reset_tokens.get(RemoteToken { remote, token }))
+        to_connection(
+            self.connection_reset_tokens
+                .get(RemoteToken { remote, token }),
+        )
     }
 
     /// Where a datagram goes: to the holder of its identifier, by its Initial entry, by its address pair, or by its last 16 bytes.

@@ -49,7 +49,12 @@ fn write_token<S: Supplies>(supplies: &S, cid: &ConnectionId, out: &mut [u8], at
 }
 
 /// Writes a stateless reset for an identifier that came in `n` bytes, and says how long it is.
-pub fn write_reset<S: Supplies>(supplies: &mut S, cid: &ConnectionId, n: usize, out: &mut [u8]) -> usize
+pub fn write_reset<S: Supplies>(
+    supplies: &mut S,
+    cid: &ConnectionId,
+    n: usize,
+    out: &mut [u8],
+) -> usize
     requires least { ⌜ 22 ≤ n ⌝ }
     requires most { ⌜ n ≤ 1500 ⌝ }
     requires room { ⌜ 1500 ≤ length (now out) ⌝ }
