@@ -1,0 +1,14 @@
+pub mod Agree
+pub mod Draws
+pub mod Fates
+pub mod Keys
+pub mod Laws
+pub mod Match
+pub mod Naming
+pub mod Noninterference
+pub mod Rfc9000
+pub mod Routing
+pub mod Signers
+pub mod Sound
+pub mod Steps
+pub mod Twins

@@ -1,0 +1,7 @@
+pub mod Records
+pub mod Endpoint
+pub mod Calls
+pub mod Runs
+pub mod Words
+pub mod Theorem
+pub mod Rfc9000
