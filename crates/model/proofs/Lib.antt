@@ -6,6 +6,7 @@ pub mod Laws
 pub mod Match
 pub mod Naming
 pub mod Noninterference
+pub mod Rfc9000
 pub mod Routing
 pub mod Signers
 pub mod Sound

@@ -4,3 +4,4 @@ pub mod Calls
 pub mod Runs
 pub mod Words
 pub mod Theorem
+pub mod Rfc9000

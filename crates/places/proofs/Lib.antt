@@ -1,0 +1,4 @@
+pub mod Sums
+pub mod Views
+pub mod Writes
+pub mod Tops
