@@ -2,20 +2,20 @@
 use mathlib.Core.Path.{_≡_, refl, sym, ap, ap₂, _∙_, subst}
 use mathlib.Core.Bool.{Bool, true, false, cond}
 use mathlib.Core.List.{List, [], _∷_}
-use Prim.Native.Nat.{ℕ, suc, _+_, _-_, _≤_, _<_}
+use Prim.Native.Nat.{ℕ, suc, _-_, _≤_, _<_}
 use native.Mathlib.Omega.{arith}
 use lib.Dec.{eqb, leb}
 use lib.ListN.{length}
 use Rattle.std.specs.declared.option.Option.{Option}
 use Rattle.std.specs.declared.option.Option.the-variants.{None, Some}
-use Rattle.std.proofs.shelf.Tests.{cond-both, both-ways, leb-false, or-parts}
+use Rattle.std.proofs.shelf.Tests.{cond-both, both-ways, leb-false}
 use Rattle.model.specs.Records.{Id, Token, FourTuple, Sender, Settings, Datagram, size, sender-of, is-initial, is-early, Incoming, Event, need, retire, reset-token, drained, Answer, refused, delivered, stored, opened, closing, reset, accepted, failed, ignored, issued, done}
 use Rattle.supply.specs.Meaning.{token-of}
 use Rattle.supply.specs.declared.answers.Opens.{Opens as Opened}
 use Rattle.supply.specs.declared.answers.Opens.the-variants.{Closed, ReservedBits, BadToken, Open}
 use Rattle.supply.specs.declared.answers.Greets.{Greets}
 use Rattle.supply.specs.declared.answers.Greets.the-variants.{Yes, TransportError, Other}
-use Rattle.model.specs.Endpoint.{Conn, Waiting, Target, to-attempt, to-connection, State, Config, Supply, Outcome, or-else, toward, held-route, initial-route, pair-route, sender-route, route, first-cause, Search, none-left, found, several, is-held, is-exhausted, saturated, with-spent, with-retired, conn-less}
+use Rattle.model.specs.Endpoint.{Conn, Waiting, Target, to-attempt, to-connection, State, Config, Supply, Outcome, or-else, toward, held-route, initial-route, pair-route, sender-route, route, first-cause, Search, none-left, found, several, is-held, with-spent, with-retired, conn-less}
 use Rattle.model.specs.Calls
 use Rattle.model.specs.Calls.{gives, reset-by, stray-by, stray, open-by, bad-length, close-now, first-causes, first-by, first-packet, keep-by, handle-by, fits, handle, sealed, next-free, in-slot, brought, Room}
 use Rattle.model.specs.Runs.{Setup, Endpoint, config, supply-at, Call, handles, accepts, refuses, ignores, handles-event, with-attempt, Attempt, own, foreign, incoming, in-hand, Labelled, labelled, Entry, World, outcome-of, after, history, answer-next}
@@ -23,7 +23,7 @@ use Rattle.model.specs.Words.{Held, Began, Live, Named, Waits, MayGo, holds, o
 use Rattle.model.specs.Theorem.{Held-once, Reaches-its-holder, Goes-only-where-it-may, Kept-only-for-its-attempt, Routing-soundness}
 use Rattle.model.specs.Rfc9000.{Matches, has-identifier, has-first-identifier, has-addresses, has-token, Awaited, As-asked}
 use Rattle.model.proofs.Naming.{HeldIn, none-some, some-same}
-use Rattle.model.proofs.Sound.{OpenedIn, PairIn, SenderIn, Sound, new-sound, next-among, in-slot-among}
+use Rattle.model.proofs.Sound.{OpenedIn, PairIn, SenderIn, Sound, new-sound, a-slot, next-among, in-slot-among}
 use Rattle.model.proofs.Agree.{At, Agrees}
 use Rattle.model.proofs.Steps.{every-good, first-passed}
 use Rattle.model.proofs.Rfc9000.{cond-none-left, ends-with-last, ends-with-size, answers-as-asked}
@@ -223,14 +223,6 @@ module _ (E : Endpoint) (calls : List Call) where
   handle-free : 0 < length (st .free-handles) → Live (told E calls) (next-free (st .free-handles)) → ⊥
   handle-free some = dead-or-alive (st .conns (next-free (st .free-handles))) (next-free (st .free-handles)) (S E calls .handles-free _ (next-among (st .free-handles) some)) (A E calls .at _)
 
-  a-slot : saturated cf st ≡ false → 0 < length (st .free-slots)
-  a-slot f =
-      let few : length (st .waiting) < E .setup .settings .«max_incoming» =
-      leb-false (E .setup .settings .«max_incoming») (length (st .waiting)) (or-parts (is-exhausted cf st) (leb (E .setup .settings .«max_incoming») (length (st .waiting))) f .1) in
-      let most : E .setup .settings .«max_incoming» ≤ 64 = E .setup .few in
-      let all : length (st .waiting) + length (st .free-slots) ≡ 64 = S E calls .slots-count in
-      omega arith
-
   module _ (d : Datagram) where
     new-reset : (b : Bool) → NewBy (reset-by sp st d b)
     new-reset true = tt
@@ -249,7 +241,7 @@ module _ (E : Endpoint) (calls : List Call) where
     new-first : (o : Option ℕ) → first-cause (first-causes cf st d) ≡ o → NewBy (first-by cf sp st d o)
     new-first (Some n) e = tt
     new-first None e = cond-both (bad-length cf d) (close-now sp st 0x0a d) (open-by sp st d (cf .door .opens d)) NewBy (λ _. tt)
-        (λ _. new-open (a-slot (first-passed (first-causes cf st d) e .1 .0)) (cf .door .opens d))
+        (λ _. new-open (a-slot (E .setup .generator .len) cf st (S E calls) (E .setup .few) (first-passed (first-causes cf st d) e .1 .0)) (cf .door .opens d))
 
     new-keep : (n : ℕ) (o : Option ℕ) → NewBy (keep-by st d n o)
     new-keep n (Some k) = tt

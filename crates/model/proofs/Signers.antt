@@ -8,11 +8,11 @@ use lib.ListN.{length, replicate}
 use lib.Dec.{eqb}
 use Rattle.std.specs.declared.option.Option.{Option}
 use Rattle.std.specs.declared.option.Option.the-variants.{None, Some}
-use Rattle.model.specs.Records.{Id, Token, Grant, Event, Answer, refused, delivered, stored, opened, closing, reset, accepted, failed, ignored, issued, done, written}
+use Rattle.model.specs.Records.{Id, Token, Grant, Event, Answer, refused, delivered, stored, opened, closing, reset, accepted, failed, ignored, issued, done}
 use Rattle.supply.specs.Meaning.{token-of}
 use Rattle.model.specs.Calls.{sealed, sealed-grants}
 use Rattle.model.specs.Runs.{Setup, Endpoint, config, supply-at, Call, Labelled, labelled, World, outcome, after, history}
-use Rattle.model.specs.Words.{Among, Issued, granted, event-for, blank, blank-grants, tokenless, show, Shown}
+use Rattle.model.specs.Words.{Among, Issued, granted, event-for, blank, blank-grants, tokenless, shown, show, Shown}
 use Rattle.model.specs.Rfc9000.{Resets, As-asked}
 use Rattle.model.specs.Theorem.{Signer-independence, Resets-bear-the-token}
 use Rattle.model.proofs.Rfc9000.{ends-with-last, token-length, answers-as-asked}
@@ -49,9 +49,6 @@ module _ (E F : Endpoint) where
   tokenless-sealed ignored = refl
   tokenless-sealed (issued gs) = ap issued (blank-sealed-grants gs)
   tokenless-sealed done = refl
-
-abbrev shown : ℕ → Call → Answer → Shown
-shown k c a = record { label = k; call = c; answer = a; bytes = written a }
 
 module _ (E F : Endpoint) where
   same-shown : (cs : List Labelled) →

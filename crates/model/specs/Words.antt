@@ -314,13 +314,17 @@ tokenless ignored = ignored
 tokenless (issued gs) = issued (blank-grants gs)
 tokenless done = done
 
--- a call with its answer and the bytes that it wrote, as f shows the answer
+-- a call with its answer and the bytes that it wrote
 pub record Shown : Type 0 where
   pub label : ℕ
   pub call : Call
   pub answer : Answer
   pub bytes : List ℕ
 
+-- a call with an answer
+abbrev pub shown : ℕ → Call → Answer → Shown
+shown label call answer = record { label = label; call = call; answer = answer; bytes = written answer }
+
 -- an entry, as f shows its answer
 abbrev pub show : (Answer → Answer) → Entry → Shown
-show f e = record { label = e .label; call = e .call; answer = f (e .answer); bytes = written (f (e .answer)) }
+show f e = shown (e .label) (e .call) (f (e .answer))
