@@ -1,3 +1,4 @@
 pub mod Entries
 pub mod Routes
 pub mod Changes
+pub mod Conns

@@ -1,3 +1,6 @@
+ghost use mathlib.Core.Path.{_≡_};
+ghost use Prim.Native.Nat.{_≤_};
+ghost use lib.ListN.{length};
 use records::address::FourTuple;
 use records::shared::ConnectionId;
 use records::token::RemoteToken;
@@ -22,6 +25,8 @@ pub struct ConnectionMeta {
     pub loc_cids: [Held; 8],
     pub addresses: FourTuple,
     pub reset_token: Option<RemoteToken>,
+    ghost few: { held ≤ 8 },
+    ghost wide: { length «loc_cids» ≡ 8 },
 }
 
 /// The connections by handle.
