@@ -1,0 +1,3 @@
+//! Lists of calls and their answers, as plain values.
+pub mod answer;
+pub mod call;
