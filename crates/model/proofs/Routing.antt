@@ -440,11 +440,11 @@ module _ (E : Endpoint) (calls : List Call) where
       let same : record { number = E .setup .number; slot = n } ≡ i = some-same (record { number = E .setup .number; slot = n }) i z in
       cond-both (eqb (i .number) (E .setup .number)) (in-slot (st E calls .waiting) (i .slot)) None (λ o. o ≡ Some v → Tied (own k) v)
       (λ t y.
-          let q = in-slot-among (st E calls .waiting) (i .slot) v y in
-          let r = A E calls .placing .waits v (q .0) in
-          let here : w E calls .slots k ≡ Some (v .slot) = e ∙ ap Some (ap (λ (x : Incoming). x .slot) same ∙ sym (q .1)) in
-          let me : r .0 ≡ k = some-same (r .0) k (sym (A E calls .placing .occupies (r .0) (v .slot) (r .1)) ∙ A E calls .placing .occupies k (v .slot) here) in
-          (k, refl, subst (λ (j : ℕ). Waits (told E calls) j (v .slot) (v .first)) me (r .2)))
+      let q = in-slot-among (st E calls .waiting) (i .slot) v y in
+      let r = A E calls .placing .waits v (q .0) in
+      let here : w E calls .slots k ≡ Some (v .slot) = e ∙ ap Some (ap (λ (x : Incoming). x .slot) same ∙ sym (q .1)) in
+      let me : r .0 ≡ k = some-same (r .0) k (sym (A E calls .placing .occupies (r .0) (v .slot) (r .1)) ∙ A E calls .placing .occupies k (v .slot) here) in
+      (k, refl, subst (λ (j : ℕ). Waits (told E calls) j (v .slot) (v .first)) me (r .2)))
       (λ _ y. absurd (none-some v y))
 
   tied : (a : Attempt) (i : Incoming) → incoming (E .setup .number) (w E calls .slots) a ≡ Some i → (v : Waiting) → brought (cf E calls) (st E calls) i ≡ Some v → Tied a v
