@@ -20,13 +20,13 @@ ghost use Rattle.waiting.specs.Leads.{is-slot, lead, goes, returns-to, clear-at
 ghost use Rattle.index.specs.Routes.{initial-of};
 ghost use Rattle.index.specs.Conns.{entered-by};
 
-mod setup;
-mod room;
-mod keep;
 mod first;
-mod stray;
 mod handle;
 mod ignore;
+mod keep;
+mod open;
+mod room;
+mod stray;
 
 /// The server endpoint over its given memory.
 #[derive(Drop)]
