@@ -26,21 +26,17 @@ module _ {X : Type 0} (f : Id → Option X) where
       cond-both (empty x) (f q) (update same-id f x v q) P (λ t. there (λ u s. both-ways (empty x) u t))
       (λ t. up-read same-id same-id-decides f x v q P (here t) (λ n. there (λ u s. n s)))
 
+module _ {X : Type 0} (f : Id → Option X) where
   pub put-all-read : (xs : List Id) (v : Option X) (q : Id) (P : Option X → Type 0) → (empty q ≡ false → Among q xs → P v) → ((empty q ≡ false → Among q xs → ⊥) → P (f q)) → P (put-all f xs v q)
   put-all-read [] v q P here there = there (λ u m. m)
   put-all-read (x ∷ xs) v q P here there =
-      put-all-step (put-all f xs v) x v q P
+      put-read (put-all f xs v) x v q P
       (λ u s. here (ap empty s ∙ u) (inl s))
       (λ n. put-all-read xs v q P (λ u m. here u (inr m)) (λ m. there (λ u a. either-way u n m a)))
     where
       either-way : empty q ≡ false → (empty x ≡ false → q ≡ x → ⊥) → (empty q ≡ false → Among q xs → ⊥) → (q ≡ x) ⊎ Among q xs → ⊥
       either-way u n m (inl s) = n (sym (ap empty s) ∙ u) s
       either-way u n m (inr a) = m u a
-
-      put-all-step : (g : Id → Option X) (x : Id) (v : Option X) (q : Id) (P : Option X → Type 0) → (empty x ≡ false → q ≡ x → P v) → ((empty x ≡ false → q ≡ x → ⊥) → P (g q)) → P (put g x v q)
-      put-all-step g x v q P here there =
-          cond-both (empty x) (g q) (update same-id g x v q) P (λ t. there (λ u s. both-ways (empty x) u t))
-          (λ t. up-read same-id same-id-decides g x v q P (here t) (λ n. there (λ u s. n s)))
 
 -- ## Membership
 

@@ -1,4 +1,5 @@
 pub mod Agree
+pub mod Cases
 pub mod Draws
 pub mod Fates
 pub mod Keys

@@ -8,11 +8,12 @@ use native.Mathlib.Omega.{arith}
 use lib.ListN.{length, length-append}
 use Rattle.std.specs.declared.option.Option.{Option}
 use Rattle.std.proofs.shelf.Tests.{or-left, or-right}
-use Rattle.model.specs.Records.{Id, Answer, written}
+use Rattle.model.specs.Records.{Id, Answer}
 use Rattle.supply.specs.Meaning.{token-of}
 use Rattle.model.specs.Endpoint.{State, Outcome, row, with-waiting}
 use Rattle.model.specs.Calls.{sealed}
 use Rattle.model.specs.Runs.{Endpoint, config, supply-at, Call, Labelled, labelled, Entry, World, brings, slots-after, outcome, outcome-of, after, entry, history}
+use Rattle.model.specs.Words
 use Rattle.model.specs.Words.{came-to-nothing, about, left-out, remaining, attempts, attempts-remaining, recalled, drawn-ids, drawn-bytes, slotless, show, Shown}
 use Rattle.model.specs.Theorem
 use Rattle.model.specs.Theorem.{SameValid, Noninterference}
@@ -77,9 +78,6 @@ module _ (E F : Endpoint) (like : Theorem.Alike E F) (positive : 0 < E .setup .g
 
   same-token : token-of (F .signer) ≡ token-of (E .signer)
   same-token = ap token-of (like .signer)
-
-  abbrev shown-as : ℕ → Call → Answer → Shown
-  shown-as k c a = record { label = k; call = c; answer = a; bytes = written a }
 
   begin : Twinned 0 [] (first-world []) [] []
   unfolding after history
@@ -202,7 +200,7 @@ module _ (E F : Endpoint) (like : Theorem.Alike E F) (positive : 0 < E .setup .g
         let same = same-outcome (valid (K .0)) in
         subst (λ (b : Bool). Twinned (suc n) (e ∷ told-of earlier) (first-world (c ∷ earlier)) (cond b r (e ∷ r)) (cond b ats (mine ∷ ats))) (sym (K .0)) (record {
           kept = kept-next F it (recalled r) (I .kept);
-          shown = ap₂ {B = List Shown} (λ a t. shown-as n c a ∷ t) (ap₂ {C = Answer} (λ tk (x : Outcome). slotless (sealed tk (x .answer))) same-token same ∙ X .answer) (I .shown);
+          shown = ap₂ {B = List Shown} (λ a t. Words.shown n c a ∷ t) (ap₂ {C = Answer} (λ tk (x : Outcome). slotless (sealed tk (x .answer))) same-token same ∙ X .answer) (I .shown);
           meant = ap₂ {C = List (Option ℕ)} (λ a t. a ∷ t) (ap₂ {C = Option ℕ} (λ tk (x : Outcome). about (history F (recalled r)) n c (sealed tk (x .answer))) same-token same ∙ X .meant) (I .meant);
           core = ap (λ (x : Outcome). core-of (x .state)) same ∙ X .core;
           rest = subst (λ (x : Outcome). Rest doomed (slots-after (w .slots) n c (o .answer)) (slots-after (w₂ .slots) n c (x .answer)) (o .state .initial) (x .state .initial) (o .state .waiting) (x .state .waiting))

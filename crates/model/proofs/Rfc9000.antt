@@ -1,22 +1,25 @@
 -- `handle` and `refuse` answer as RFC 9000 asks.
-use mathlib.Core.Path.{_≡_, refl, sym, ap, ap₂, _∙_, subst}
+use mathlib.Core.Path.{_≡_, refl, sym, ap, ap₂, _∙_}
 use mathlib.Core.Logic.{_⊎_, inl, inr}
-use mathlib.Core.Bool.{Bool, true, false, not, cond, _&&_, _||_}
+use mathlib.Core.Bool.{Bool, true, false, not, cond, _||_}
 use mathlib.Core.List.{List, [], _∷_, _++_}
-use Prim.Native.Nat.{ℕ, zero, suc, _+_, _-_, _/_, _%_, _≤_, _<_}
+use Prim.Native.Nat.{ℕ, zero, suc, _+_, _-_, _/_, _%_, _≤_, _<_, min}
 use native.Mathlib.Nat.{mod-lt}
 use native.Mathlib.Omega.{arith}
 use lib.Dec.{eqb, leb, ltb}
-use lib.ListN.{length, take, drop, getD, length-append, length-drop, take-append-drop}
+use lib.ListN.{length, take, getD, length-append, length-take, length-drop, take-append-drop}
 use Rattle.std.specs.declared.option.Option.{Option}
 use Rattle.std.specs.declared.option.Option.the-variants.{None, Some}
 use Rattle.std.proofs.shelf.Lists.{drop-at}
 use Rattle.std.proofs.shelf.Tests.{both-ways, not-true, not-false, ltb-true, ltb-false, leb-true, leb-false, le-leb, lt-leb, eqb-true, eq-eqb, and-parts, and-cases, or-cases, or-parts, cond-both}
+use Rattle.records.specs.Ids.{id-bytes}
+use Rattle.supply.specs.Meaning.{token-of}
 use Rattle.supply.specs.declared.answers.Opens.{Opens}
 use Rattle.supply.specs.declared.answers.Opens.the-variants.{Closed, ReservedBits, BadToken, Open}
 use Rattle.model.specs.Records.{Id, Token, empty, Sender, Datagram, size, is-initial, is-short, is-early, last-16, sender-of, Incoming, refused}
 use Rattle.model.specs.Endpoint.{Waiting, Target, to-attempt, to-connection, State, Config, Supply, Outcome, row, first-cause, or-else, toward, held-route, initial-route, pair-route, sender-route, route}
-use Rattle.model.specs.Calls.{gives, number-of, marked, reset-by, stray-causes, stray-by, stray, close-now, open-by, bad-length, first-causes, first-by, first-packet, keep-by, handle-by, fits, handle, brought, refuse-of, sealed}
+use Rattle.model.specs.Calls.{gives, number-of, marked, reset-by, stray-causes, stray-by, stray, close-now, open-by, bad-length, first-causes, first-by, first-packet, keep-by, handle-by, fits, brought, refuse-of, sealed}
+use Rattle.model.specs.Runs.{Setup, Endpoint, config, supply-at, Call, handles, labelled, World, outcome-of, after, answer-next}
 use Rattle.model.specs.Rfc9000
 use Rattle.model.specs.Rfc9000.{Long-enough, Ends-with, Stateless-reset, Matches, has-identifier, has-first-identifier, has-addresses, has-token, Awaited, As-asked, Keeps-to-rfc9000, Refused-as-asked, Refuses-by-rfc9000}
 use Rattle.model.proofs.Naming.{none-some}
@@ -55,7 +58,7 @@ toward-not : (o : Option ℕ) (n : ℕ) → toward o ≡ Some (to-attempt n) →
 toward-not None n e = none-some (to-attempt n) e
 toward-not (Some k) n e = let z : _≡_ {A = ℕ} 0 1 = cc in omega arith
 
-cond-none-left : {A : Type 0} (b : Bool) (o : Option A) (t : A) → cond b None o ≡ Some t → (b ≡ false) × (o ≡ Some t)
+pub cond-none-left : {A : Type 0} (b : Bool) (o : Option A) (t : A) → cond b None o ≡ Some t → (b ≡ false) × (o ≡ Some t)
 cond-none-left true o t e = absurd (none-some t e)
 cond-none-left false o t e = (refl, e)
 
@@ -234,6 +237,20 @@ pub keeps-to-rfc9000 : (c : Config) (u : Supply) (token : Id → Token) (s : Sta
     ((i : ℕ) → u .next-byte i < 256) → ((x : Id) → length (token x) ≡ 16) → Keeps-to-rfc9000 c u token s d room
 keeps-to-rfc9000 c u token s d room fit wide =
     cond-both (fits c d room) (handle-by c u s d (route s d)) (gives (refused 1) s) (Asked c u token s d fit wide) (λ _. asked-by c u token s d fit wide (route s d) refl) (λ _. tt)
+
+pub token-length : (signer : List ℕ → List ℕ) → ((message : List ℕ) → length (signer message) ≡ 32) → (x : Id) → length (token-of signer x) ≡ 16
+token-length signer long x = length-take 16 (signer (id-bytes x)) ∙ ap (min 16) (long (id-bytes x))
+
+-- the same after any list of calls on a new endpoint
+pub answers-as-asked : (E : Endpoint) (calls : List Call) (d : Datagram) (room : ℕ) →
+    let U : Setup = E .setup in
+    let w : World = after U (labelled calls) in
+    As-asked (config U) (supply-at U w) (token-of (E .signer)) (w .state) d (answer-next E (labelled calls) (handles d room))
+unfolding outcome-of
+answers-as-asked E calls d room =
+    let U : Setup = E .setup in
+    let w : World = after U (labelled calls) in
+    keeps-to-rfc9000 (config U) (supply-at U w) (token-of (E .signer)) (w .state) d room (λ i. U .bytes-fit (w .bytes-used + i)) (token-length (E .signer) (E .long))
 
 -- ## Every answer of `refuse`
 

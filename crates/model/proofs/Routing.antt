@@ -1,31 +1,32 @@
 -- Routing is sound after every list of calls.
 use mathlib.Core.Path.{_≡_, refl, sym, ap, ap₂, _∙_, subst}
-use mathlib.Core.Logic.{_⊎_, inl, inr}
 use mathlib.Core.Bool.{Bool, true, false, cond}
 use mathlib.Core.List.{List, [], _∷_}
-use Prim.Native.Nat.{ℕ, suc, _+_, _-_, _≤_, _<_}
+use Prim.Native.Nat.{ℕ, suc, _-_, _≤_, _<_}
 use native.Mathlib.Omega.{arith}
 use lib.Dec.{eqb, leb}
 use lib.ListN.{length}
 use Rattle.std.specs.declared.option.Option.{Option}
 use Rattle.std.specs.declared.option.Option.the-variants.{None, Some}
-use Rattle.std.proofs.shelf.Tests.{cond-both, both-ways, leb-true, leb-false, or-parts}
-use Rattle.model.specs.Records.{Id, Token, empty, FourTuple, Sender, Settings, Datagram, size, sender-of, is-initial, is-early, Incoming, Event, need, retire, reset-token, drained, Answer, refused, delivered, stored, opened, closing, reset, accepted, failed, ignored, issued, done}
+use Rattle.std.proofs.shelf.Tests.{cond-both, both-ways, leb-false}
+use Rattle.model.specs.Records.{Id, Token, FourTuple, Sender, Settings, Datagram, size, sender-of, is-initial, is-early, Incoming, Event, need, retire, reset-token, drained, Answer, refused, delivered, stored, opened, closing, reset, accepted, failed, ignored, issued, done}
 use Rattle.supply.specs.Meaning.{token-of}
 use Rattle.supply.specs.declared.answers.Opens.{Opens as Opened}
 use Rattle.supply.specs.declared.answers.Opens.the-variants.{Closed, ReservedBits, BadToken, Open}
 use Rattle.supply.specs.declared.answers.Greets.{Greets}
 use Rattle.supply.specs.declared.answers.Greets.the-variants.{Yes, TransportError, Other}
-use Rattle.model.specs.Endpoint.{Conn, Waiting, Target, to-attempt, to-connection, State, Config, Supply, Outcome, or-else, toward, held-route, initial-route, pair-route, sender-route, route, first-cause, Search, none-left, found, several, is-held, is-exhausted, saturated, with-spent, with-retired, conn-less}
+use Rattle.model.specs.Endpoint.{Conn, Waiting, Target, to-attempt, to-connection, State, Config, Supply, Outcome, or-else, toward, held-route, initial-route, pair-route, sender-route, route, first-cause, Search, none-left, found, several, is-held, with-spent, with-retired, conn-less}
 use Rattle.model.specs.Calls
 use Rattle.model.specs.Calls.{gives, reset-by, stray-by, stray, open-by, bad-length, close-now, first-causes, first-by, first-packet, keep-by, handle-by, fits, handle, sealed, next-free, in-slot, brought, Room}
 use Rattle.model.specs.Runs.{Setup, Endpoint, config, supply-at, Call, handles, accepts, refuses, ignores, handles-event, with-attempt, Attempt, own, foreign, incoming, in-hand, Labelled, labelled, Entry, World, outcome-of, after, history, answer-next}
 use Rattle.model.specs.Words.{Held, Began, Live, Named, Waits, MayGo, holds, opened-with, by-pair, by-token}
-use Rattle.model.specs.Theorem.{Held-once, Reaches-its-holder, Routing-soundness}
+use Rattle.model.specs.Theorem.{Held-once, Reaches-its-holder, Goes-only-where-it-may, Kept-only-for-its-attempt, Routing-soundness}
+use Rattle.model.specs.Rfc9000.{Matches, has-identifier, has-first-identifier, has-addresses, has-token, Awaited, As-asked}
 use Rattle.model.proofs.Naming.{HeldIn, none-some, some-same}
-use Rattle.model.proofs.Sound.{OpenedIn, PairIn, SenderIn, Sound, new-sound, next-among, in-slot-among}
+use Rattle.model.proofs.Sound.{OpenedIn, PairIn, SenderIn, Sound, new-sound, a-slot, next-among, in-slot-among}
 use Rattle.model.proofs.Agree.{At, Agrees}
 use Rattle.model.proofs.Steps.{every-good, first-passed}
+use Rattle.model.proofs.Rfc9000.{cond-none-left, ends-with-last, ends-with-size, answers-as-asked}
 
 -- ## After every list
 
@@ -96,27 +97,7 @@ module _ (told : List Entry) (h : ℕ) where
   sender-told None a r m = elim m [ ]
   sender-told (Some c) a r m = ((a .first, a .began), a .named r m)
 
--- ## Ways through the routes
-
-or-else-cases : {A : Type 0} (o p : Option A) (t : A) → or-else o p ≡ Some t → (o ≡ Some t) ⊎ (p ≡ Some t)
-or-else-cases None p t e = inr e
-or-else-cases (Some a) p t e = inl e
-
-toward-is : (o : Option ℕ) (h : ℕ) → toward o ≡ Some (to-connection h) → o ≡ Some h
-toward-is None h e = absurd (none-some (to-connection h) e)
-toward-is (Some k) h e = cc
-
-toward-not : (o : Option ℕ) (n : ℕ) → toward o ≡ Some (to-attempt n) → ⊥
-toward-not None n e = none-some (to-attempt n) e
-toward-not (Some k) n e = let z : _≡_ {A = ℕ} 0 1 = cc in omega arith
-
-cond-none-left : {A : Type 0} (b : Bool) (o : Option A) (t : A) → cond b None o ≡ Some t → (b ≡ false) × (o ≡ Some t)
-cond-none-left true o t e = absurd (none-some t e)
-cond-none-left false o t e = (refl, e)
-
-cond-none-right : {A : Type 0} (b : Bool) (o : Option A) (t : A) → cond b o None ≡ Some t → (b ≡ true) × (o ≡ Some t)
-cond-none-right false o t e = absurd (none-some t e)
-cond-none-right true o t e = (refl, e)
+-- ## What is held, and where a datagram goes
 
 module _ (E : Endpoint) (calls : List Call) where
   abbrev U : Setup
@@ -157,118 +138,37 @@ module _ (E : Endpoint) (calls : List Call) where
       ap₂ {C = Answer} (λ b o. sealed (token-of (E .signer)) (cond b (handle-by (config U) (supply-at U w) s d o) (gives (refused 1) s) .answer)) f whole
 
   module _ (d : Datagram) where
-    delivers : (h : ℕ) → route s d ≡ Some (to-connection h) → Live told h × MayGo told len d h
-    delivers h e = elim (or-else-cases (held-route s d) _ (to-connection h) e) [
-      | inl p ↦
-          (let r = cond-none-left (empty (d .dst)) (toward (s .ids (d .dst))) (to-connection h) p in
-          let v = S .naming .sound (d .dst) h (toward-is (s .ids (d .dst)) h (r .1)) in
-          let t = in-told told h (s .conns h) (A .at h) (v .0) (d .dst) (v .1) in
-          (t .0, holds (v .0) (r .0) (t .1)))
-      | inr p ↦ elim (or-else-cases (initial-route s d) _ (to-connection h) p) [
-        | inl q ↦
-            (let r = cond-none-right (is-early (d .kind)) (s .initial (d .dst)) (to-connection h) q in
-            let t = opened-told told h (s .conns h) (A .at h) (d .dst) (S .entry-conn (d .dst) h (r .1)) in
-            ((t .0, t .1), opened-with (t .0) (r .0) (S .entry-some (d .dst) (to-connection h) (r .1)) (t .1) (t .2)))
-        | inr q ↦ elim (or-else-cases (pair-route s d) (sender-route s d) (to-connection h) q) [
-          | inl z ↦
-              (let r = cond-none-right (empty (d .dst)) (toward (s .pairs (d .addresses))) (to-connection h) z in
-              let v = S .pair-conn (d .addresses) h (toward-is (s .pairs (d .addresses)) h (r .1)) in
-              let t = pair-told told h (s .conns h) (A .at h) (d .addresses) (v .0) in
-              ((t .0, t .1), by-pair (t .0) (v .1) (r .0) (t .1) (t .2)))
-          | inr z ↦
-              (let r = cond-none-right (leb 16 (size d)) (toward (s .senders (sender-of d))) (to-connection h) z in
-              let t = sender-told told h (s .conns h) (A .at h) (sender-of d) (S .sender-conn (sender-of d) h (toward-is (s .senders (sender-of d)) h (r .1))) in
-              (t .0, by-token (leb-true 16 (size d) (r .0)) (t .1)))
-        ]
-      ]
-    ]
+    delivers : (h : ℕ) → Matches s d h → Live told h × MayGo told len d h
+    delivers h (has-identifier u m) =
+        let v = S .naming .sound (d .dst) h m in
+        let t = in-told told h (s .conns h) (A .at h) (v .0) (d .dst) (v .1) in
+        (t .0, holds (v .0) u (t .1))
+    delivers h (has-first-identifier u m) =
+        let t = opened-told told h (s .conns h) (A .at h) (d .dst) (S .entry-conn (d .dst) h m) in
+        ((t .0, t .1), opened-with (t .0) u (S .entry-some (d .dst) (to-connection h) m) (t .1) (t .2))
+    delivers h (has-addresses u m) =
+        let v = S .pair-conn (d .addresses) h m in
+        let t = pair-told told h (s .conns h) (A .at h) (d .addresses) (v .0) in
+        ((t .0, t .1), by-pair (t .0) (v .1) u (t .1) (t .2))
+    delivers h (has-token x u m) =
+        let it : s .senders (sender-of d) ≡ Some h = ap (λ y. s .senders (record { remote = d .addresses .remote; token = record { bytes = y } })) (ends-with-last (d .bytes) x u) ∙ m in
+        let t = sender-told told h (s .conns h) (A .at h) (sender-of d) (S .sender-conn (sender-of d) h it) in
+        (t .0, by-token (ends-with-size (d .bytes) x u) (t .1))
 
-    abbrev ForIt : ℕ → Type 0
-    ForIt n = (k : ℕ) × (first : Datagram) × Waits told k n first × (first .dst ≡ d .dst) × (is-early (d .kind) ≡ true)
+    keeps : (n : ℕ) → Awaited s d n → (k : ℕ) × (first : Datagram) × Waits told k n first × (first .dst ≡ d .dst) × (is-early (d .kind) ≡ true)
+    keeps n a =
+        let v = S .entry-attempt (d .dst) n (a .same) in
+        let t = A .placing .waits (v .0) (v .1) in
+        (t .0, v .0 .first, subst (λ (j : ℕ). Waits told (t .0) j (v .0 .first)) (v .2) (t .2), v .3, a .early)
 
-    keeps : (n : ℕ) → route s d ≡ Some (to-attempt n) → ForIt n
-    keeps n e = elim (or-else-cases (held-route s d) _ (to-attempt n) e) [
-      | inl p ↦ absurd (toward-not (s .ids (d .dst)) n (cond-none-left (empty (d .dst)) (toward (s .ids (d .dst))) (to-attempt n) p .1))
-      | inr p ↦ elim (or-else-cases (initial-route s d) _ (to-attempt n) p) [
-        | inl q ↦
-            (let r = cond-none-right (is-early (d .kind)) (s .initial (d .dst)) (to-attempt n) q in
-            let v = S .entry-attempt (d .dst) n (r .1) in
-            let t = A .placing .waits (v .0) (v .1) in
-            (t .0, v .0 .first, subst (λ (j : ℕ). Waits told (t .0) j (v .0 .first)) (v .2) (t .2), v .3, r .0))
-        | inr q ↦ elim (or-else-cases (pair-route s d) (sender-route s d) (to-attempt n) q) [
-          | inl z ↦ absurd (toward-not (s .pairs (d .addresses)) n (cond-none-right (empty (d .dst)) (toward (s .pairs (d .addresses))) (to-attempt n) z .1))
-          | inr z ↦ absurd (toward-not (s .senders (sender-of d)) n (cond-none-right (leb 16 (size d)) (toward (s .senders (sender-of d))) (to-attempt n) z .1))
-        ]
-      ]
-    ]
+    abbrev Asked : Answer → Type 0
+    Asked = As-asked (config U) (supply-at U w) (token-of (E .signer)) s d
 
-    -- where an answer takes the datagram
-    abbrev Went : Answer → Type 0
-    Went (refused c) = Unit {0}
-    Went (delivered h) = Live told h × MayGo told len d h
-    Went (stored n) = ForIt n
-    Went (opened k o) = Unit {0}
-    Went (closing c) = Unit {0}
-    Went (reset a y p t) = Unit {0}
-    Went (accepted h gs seed ds) = Unit {0}
-    Went (failed c k) = Unit {0}
-    Went ignored = Unit {0}
-    Went (issued gs) = Unit {0}
-    Went done = Unit {0}
+  goes-only-where-it-may : Goes-only-where-it-may E calls
+  goes-only-where-it-may d room h e = delivers d h (subst (Asked d) e (answers-as-asked E calls d room))
 
-    went-sealed : (token : Id → Token) (a : Answer) → Went a → Went (sealed token a)
-    went-sealed token (refused c) v = v
-    went-sealed token (delivered h) v = v
-    went-sealed token (stored n) v = v
-    went-sealed token (opened k o) v = v
-    went-sealed token (closing c) v = v
-    went-sealed token (reset a y p t) v = v
-    went-sealed token (accepted h gs seed ds) v = v
-    went-sealed token (failed c k) v = v
-    went-sealed token ignored v = v
-    went-sealed token (issued gs) v = v
-    went-sealed token done v = v
-
-    abbrev c : Config
-    c = config U
-
-    abbrev u : Supply
-    u = supply-at U w
-
-    abbrev WentBy : Outcome → Type 0
-    WentBy o = Went (o .answer)
-
-    went-reset : (b : Bool) → WentBy (reset-by u s d b)
-    went-reset true = tt
-    went-reset false = tt
-
-    went-stray : (o : Option ℕ) → WentBy (stray-by u s d o)
-    went-stray (Some n) = tt
-    went-stray None = went-reset (leb (size d - 17) 26)
-
-    went-open : (o : Opened) → WentBy (open-by u s d o)
-    went-open Closed = tt
-    went-open ReservedBits = tt
-    went-open BadToken = tt
-    went-open (Open o) = tt
-
-    went-first : (o : Option ℕ) → WentBy (first-by c u s d o)
-    went-first (Some n) = tt
-    went-first None = cond-both (bad-length c d) (close-now u s 0x0a d) (open-by u s d (c .door .opens d)) WentBy (λ _. tt) (λ _. went-open (c .door .opens d))
-
-    went-keep : (n : ℕ) → route s d ≡ Some (to-attempt n) → (o : Option ℕ) → WentBy (keep-by s d n o)
-    went-keep n e (Some k) = tt
-    went-keep n e None = keeps n e
-
-    went-by : (o : Option Target) → route s d ≡ o → WentBy (handle-by c u s d o)
-    went-by (Some (to-connection h)) e = delivers h e
-    went-by (Some (to-attempt n)) e = went-keep n e _
-    went-by None e = cond-both (is-initial (d .kind)) (first-packet c u s d) (stray c u s d) WentBy (λ _. went-first _) (λ _. went-stray _)
-
-    went : (room : ℕ) → Went (answer-next E (labelled calls) (handles d room))
-    unfolding outcome-of
-    went room = went-sealed (token-of (E .signer)) _
-        (cond-both (fits c d room) (handle-by c u s d (route s d)) (gives (refused 1) s) WentBy (λ _. went-by (route s d) refl) (λ _. tt))
+  kept-only-for-its-attempt : Kept-only-for-its-attempt E calls
+  kept-only-for-its-attempt d room n e = keeps d n (subst (Asked d) e (answers-as-asked E calls d room))
 
 -- ## What is given anew was free
 
@@ -323,14 +223,6 @@ module _ (E : Endpoint) (calls : List Call) where
   handle-free : 0 < length (st .free-handles) → Live (told E calls) (next-free (st .free-handles)) → ⊥
   handle-free some = dead-or-alive (st .conns (next-free (st .free-handles))) (next-free (st .free-handles)) (S E calls .handles-free _ (next-among (st .free-handles) some)) (A E calls .at _)
 
-  a-slot : saturated cf st ≡ false → 0 < length (st .free-slots)
-  a-slot f =
-      let few : length (st .waiting) < E .setup .settings .«max_incoming» =
-      leb-false (E .setup .settings .«max_incoming») (length (st .waiting)) (or-parts (is-exhausted cf st) (leb (E .setup .settings .«max_incoming») (length (st .waiting))) f .1) in
-      let most : E .setup .settings .«max_incoming» ≤ 64 = E .setup .few in
-      let all : length (st .waiting) + length (st .free-slots) ≡ 64 = S E calls .slots-count in
-      omega arith
-
   module _ (d : Datagram) where
     new-reset : (b : Bool) → NewBy (reset-by sp st d b)
     new-reset true = tt
@@ -349,7 +241,7 @@ module _ (E : Endpoint) (calls : List Call) where
     new-first : (o : Option ℕ) → first-cause (first-causes cf st d) ≡ o → NewBy (first-by cf sp st d o)
     new-first (Some n) e = tt
     new-first None e = cond-both (bad-length cf d) (close-now sp st 0x0a d) (open-by sp st d (cf .door .opens d)) NewBy (λ _. tt)
-        (λ _. new-open (a-slot (first-passed (first-causes cf st d) e .1 .0)) (cf .door .opens d))
+        (λ _. new-open (a-slot (E .setup .generator .len) cf st (S E calls) (E .setup .few) (first-passed (first-causes cf st d) e .1 .0)) (cf .door .opens d))
 
     new-keep : (n : ℕ) (o : Option ℕ) → NewBy (keep-by st d n o)
     new-keep n (Some k) = tt
@@ -522,8 +414,8 @@ pub routing-soundness : (E : Endpoint) (calls : List Call) → Routing-soundness
 routing-soundness E calls = (
   held-once E calls,
   reaches-its-holder E calls,
-  λ d room h e. subst (Went E calls d) e (went E calls d room),
-  λ d room n e. subst (Went E calls d) e (went E calls d room),
+  goes-only-where-it-may E calls,
+  kept-only-for-its-attempt E calls,
   λ call h gs seed ds e. subst (New E calls) e (new-answer E calls call),
   λ call n o e. subst (New E calls) e (new-answer E calls call),
   λ a now given room h gs seed ds e. subst (First E calls a) e (first-answer E calls a now given room),

@@ -3,33 +3,25 @@ use mathlib.Core.Path.{_≡_, refl, sym, ap, ap₂, _∙_, subst}
 use mathlib.Core.Logic.{inl, inr}
 use mathlib.Core.Bool.{Bool, true, false, cond}
 use mathlib.Core.List.{List, [], _∷_, _++_, map}
-use Prim.Native.Nat.{ℕ, _-_, min}
-use native.Mathlib.Omega.{arith}
-use lib.ListN.{length, replicate, length-append, length-take}
-use lib.Dec.{eqb, leb}
-use Rattle.std.proofs.shelf.Lists.{drop-at}
-use Rattle.std.proofs.shelf.Tests.{cond-both}
+use Prim.Native.Nat.{ℕ}
+use lib.ListN.{length, replicate}
+use lib.Dec.{eqb}
 use Rattle.std.specs.declared.option.Option.{Option}
 use Rattle.std.specs.declared.option.Option.the-variants.{None, Some}
-use Rattle.model.specs.Records.{Id, Token, Datagram, size, is-initial, last-16, Grant, Event, Answer, refused, delivered, stored, opened, closing, reset, accepted, failed, ignored, issued, done, written}
-use Rattle.records.specs.Ids.{id-bytes}
+use Rattle.model.specs.Records.{Id, Token, Grant, Event, Answer, refused, delivered, stored, opened, closing, reset, accepted, failed, ignored, issued, done}
 use Rattle.supply.specs.Meaning.{token-of}
-use Rattle.supply.specs.declared.answers.Opens.{Opens as Opened}
-use Rattle.supply.specs.declared.answers.Opens.the-variants.{Closed, ReservedBits, BadToken, Open}
-use Rattle.model.specs.Endpoint.{Target, to-attempt, to-connection, State, Config, Supply, Outcome, route}
-use Rattle.model.specs.Calls.{reset-by, stray-by, open-by, bad-length, first-by, keep-by, handle-by, fits, handle, sealed, sealed-grants}
-use Rattle.model.specs.Runs.{Setup, Endpoint, config, supply-at, Call, handles, Labelled, labelled, World, outcome, outcome-of, after, history}
-use Rattle.model.specs.Words.{Among, Issued, granted, event-for, blank, blank-grants, tokenless, show, Shown}
+use Rattle.model.specs.Calls.{sealed, sealed-grants}
+use Rattle.model.specs.Runs.{Setup, Endpoint, config, supply-at, Call, Labelled, labelled, World, outcome, after, history}
+use Rattle.model.specs.Words.{Among, Issued, granted, event-for, blank, blank-grants, tokenless, shown, show, Shown}
+use Rattle.model.specs.Rfc9000.{Resets, As-asked}
 use Rattle.model.specs.Theorem.{Signer-independence, Resets-bear-the-token}
+use Rattle.model.proofs.Rfc9000.{ends-with-last, token-length, answers-as-asked}
 
 -- ## Tokens blanked
 
 blank-length : (n : ℕ) (t : List ℕ) → length t ≡ n → blank t ≡ replicate n 0
 blank-length n [] e = ap (λ k. replicate k 0) e
 blank-length n (b ∷ bs) e = ap {B = List ℕ} (λ r. 0 ∷ r) (blank-length (length bs) bs refl) ∙ ap (λ k. replicate k 0) e
-
-pub token-length : (E : Endpoint) (x : Id) → length (token-of (E .signer) x) ≡ 16
-token-length E x = length-take 16 (E .signer (id-bytes x)) ∙ ap (min 16) (E .long (id-bytes x))
 
 module _ (E F : Endpoint) where
   abbrev s : List ℕ → List ℕ
@@ -39,7 +31,7 @@ module _ (E F : Endpoint) where
   t = F .signer
 
   blank-token : (x : Id) → blank (token-of s x) ≡ blank (token-of t x)
-  blank-token x = blank-length 16 (token-of s x) (token-length E x) ∙ sym (blank-length 16 (token-of t x) (token-length F x))
+  blank-token x = blank-length 16 (token-of s x) (token-length s (E .long) x) ∙ sym (blank-length 16 (token-of t x) (token-length t (F .long) x))
 
   blank-sealed-grants : (gs : List Grant) → blank-grants (sealed-grants (token-of s) gs) ≡ blank-grants (sealed-grants (token-of t) gs)
   blank-sealed-grants [] = refl
@@ -57,9 +49,6 @@ module _ (E F : Endpoint) where
   tokenless-sealed ignored = refl
   tokenless-sealed (issued gs) = ap issued (blank-sealed-grants gs)
   tokenless-sealed done = refl
-
-abbrev shown : ℕ → Call → Answer → Shown
-shown k c a = record { label = k; call = c; answer = a; bytes = written a }
 
 module _ (E F : Endpoint) where
   same-shown : (cs : List Labelled) →
@@ -108,92 +97,10 @@ module _ (E : Endpoint) (h : ℕ) (g : Grant) where
       granted-sealed (token-of (E .signer)) h g (event-for h (c .call)) (outcome (E .setup) (after (E .setup) earlier) (c .call) .answer) m
   issued-bears (c ∷ earlier) (inr m) = issued-bears earlier m
 
--- ## A reset is for the identifier that its datagram bears
-
-module _ (x : Id) where
-  -- a reset in an answer is for x
-  abbrev For : Answer → Type 0
-  For (refused c) = Unit {0}
-  For (delivered h) = Unit {0}
-  For (stored k) = Unit {0}
-  For (opened k o) = Unit {0}
-  For (closing c) = Unit {0}
-  For (reset a y p t) = y ≡ x
-  For (accepted h gs seed ds) = Unit {0}
-  For (failed c k) = Unit {0}
-  For ignored = Unit {0}
-  For (issued gs) = Unit {0}
-  For done = Unit {0}
-
-  abbrev ForBy : (Id → Token) → Answer → Type 0
-  ForBy token (refused c) = Unit {0}
-  ForBy token (delivered h) = Unit {0}
-  ForBy token (stored k) = Unit {0}
-  ForBy token (opened k o) = Unit {0}
-  ForBy token (closing c) = Unit {0}
-  ForBy token (reset a y p t) = t ≡ token x
-  ForBy token (accepted h gs seed ds) = Unit {0}
-  ForBy token (failed c k) = Unit {0}
-  ForBy token ignored = Unit {0}
-  ForBy token (issued gs) = Unit {0}
-  ForBy token done = Unit {0}
-
-  sealed-for : (token : Id → Token) (a : Answer) → For a → ForBy token (sealed token a)
-  sealed-for token (refused c) f = tt
-  sealed-for token (delivered h) f = tt
-  sealed-for token (stored k) f = tt
-  sealed-for token (opened k o) f = tt
-  sealed-for token (closing c) f = tt
-  sealed-for token (reset a y p t) f = ap token f
-  sealed-for token (accepted h gs seed ds) f = tt
-  sealed-for token (failed c k) f = tt
-  sealed-for token ignored f = tt
-  sealed-for token (issued gs) f = tt
-  sealed-for token done f = tt
-
-module _ (c : Config) (u : Supply) (s : State) (d : Datagram) where
-  abbrev Mine : Outcome → Type 0
-  Mine o = For (d .dst) (o .answer)
-
-  reset-mine : (b : Bool) → Mine (reset-by u s d b)
-  reset-mine true = refl
-  reset-mine false = refl
-
-  stray-mine : (o : Option ℕ) → Mine (stray-by u s d o)
-  stray-mine (Some n) = tt
-  stray-mine None = reset-mine (leb (size d - 17) 26)
-
-  open-mine : (o : Opened) → Mine (open-by u s d o)
-  open-mine Closed = tt
-  open-mine ReservedBits = tt
-  open-mine BadToken = tt
-  open-mine (Open o) = tt
-
-  first-mine : (o : Option ℕ) → Mine (first-by c u s d o)
-  first-mine (Some n) = tt
-  first-mine None = cond-both (bad-length c d) _ _ Mine (λ _. tt) (λ _. open-mine (c .door .opens d))
-
-  keep-mine : (slot : ℕ) (o : Option ℕ) → Mine (keep-by s d slot o)
-  keep-mine slot (Some n) = tt
-  keep-mine slot None = tt
-
-  handle-mine-by : (o : Option Target) → Mine (handle-by c u s d o)
-  handle-mine-by (Some (to-connection h)) = tt
-  handle-mine-by (Some (to-attempt slot)) = keep-mine slot _
-  handle-mine-by None = cond-both (is-initial (d .kind)) _ _ Mine (λ _. first-mine _) (λ _. stray-mine _)
-
-  handle-mine : (room : ℕ) → Mine (handle c u s d room)
-  handle-mine room = cond-both (fits c d room) _ _ Mine (λ _. handle-mine-by (route s d)) (λ _. tt)
-
-last-token : (p t : List ℕ) → length t ≡ 16 → last-16 (p ++ t) ≡ t
-last-token p t e = drop-at p t (length (p ++ t) - 16) (omega (arith, length-append p t))
-
 pub resets-bear-the-token : (E : Endpoint) (calls : List Call) → Resets-bear-the-token E calls
-unfolding outcome-of
 resets-bear-the-token E calls d room a x p t e h g i is =
     let U : Setup = E .setup in
     let w : World = after U (labelled calls) in
-    let mine : For (d .dst) (outcome U w (handles d room) .answer) = handle-mine (config U) (supply-at U w) (w .state) d room in
-    let bears : t ≡ token-of (E .signer) (d .dst) = subst (ForBy (d .dst) (token-of (E .signer))) e (sealed-for (d .dst) (token-of (E .signer)) _ mine) in
-    let own : g .token ≡ token-of (E .signer) (d .dst) = issued-bears E h g (labelled calls) i ∙ ap (token-of (E .signer)) is in
-    last-token p t (ap length bears ∙ token-length E (d .dst)) ∙ bears ∙ sym own
+    let r : Resets (supply-at U w) (token-of (E .signer)) (w .state) d a x p t =
+    subst (As-asked (config U) (supply-at U w) (token-of (E .signer)) (w .state) d) e (answers-as-asked E calls d room) in
+    ends-with-last (p ++ t) (token-of (E .signer) (d .dst)) (r .form .token-last) ∙ sym (issued-bears E h g (labelled calls) i ∙ ap (token-of (E .signer)) is)

@@ -5,17 +5,17 @@ use mathlib.Core.Bool.{Bool, true, false, not, cond}
 use mathlib.Core.List.{List, [], _∷_, _++_, map}
 use Prim.Native.Nat.{ℕ, zero, suc, _+_, _≤_, _<_}
 use native.Mathlib.Omega.{arith}
-use lib.Dec.{eqb}
+use lib.Dec.{eqb, leb}
 use lib.ListN.{length, drop, length-map}
 use Rattle.std.specs.declared.option.Option.{Option}
 use Rattle.std.specs.declared.option.Option.the-variants.{None, Some}
 use Rattle.std.specs.shelf.Lists.{kept-by}
 use Rattle.std.specs.Finite.{update}
-use Rattle.std.proofs.shelf.Tests.{cond-both, eqb-true, eqb-false, ne-eqb, not-true, not-false}
+use Rattle.std.proofs.shelf.Tests.{cond-both, leb-false, eqb-true, eqb-false, ne-eqb, not-true, not-false, or-parts}
 use Rattle.std.proofs.shelf.Lists.{append-nil}
 use Rattle.std.proofs.shelf.Ways.{decides-eqb}
 use Rattle.model.specs.Records.{Id, empty, FourTuple, same-pair, Sender, same-sender, Datagram}
-use Rattle.model.specs.Endpoint.{Conn, Waiting, Target, to-attempt, to-connection, State, Config, put, put-all, sequenced, second, new-state, counting, add-kept, with-kept, with-opened, without, with-spent, with-reset, with-conn, new-conn, with-accepted, forget-sender, with-drained, conn-holding, with-issued, conn-less, with-retired, with-sender}
+use Rattle.model.specs.Endpoint.{Conn, Waiting, Target, to-attempt, to-connection, State, Config, put, put-all, sequenced, second, new-state, counting, is-exhausted, saturated, add-kept, with-kept, with-opened, without, with-spent, with-reset, with-conn, new-conn, with-accepted, forget-sender, with-drained, conn-holding, with-issued, conn-less, with-retired, with-sender}
 use Rattle.model.specs.Calls.{in-slot, next-free}
 use Rattle.model.specs.Words.{Among}
 use Rattle.records.proofs.Same.{same-pair-decides, same-sender-decides}
@@ -64,6 +64,14 @@ pub record Sound (len : ℕ) (s : State) : Type 0 where
 pub next-among : (free : List ℕ) → 0 < length free → Among (next-free free) free
 next-among [] l = absurd (omega arith)
 next-among (n ∷ free) l = inl refl
+
+-- one more attempt has a slot
+pub a-slot : (len : ℕ) (c : Config) (s : State) → Sound len s → c .settings .«max_incoming» ≤ 64 → saturated c s ≡ false → 0 < length (s .free-slots)
+a-slot len c s S most f =
+    let few : length (s .waiting) < c .settings .«max_incoming» =
+    leb-false (c .settings .«max_incoming») (length (s .waiting)) (or-parts (is-exhausted c s) (leb (c .settings .«max_incoming») (length (s .waiting))) f .1) in
+    let all : length (s .waiting) + length (s .free-slots) ≡ 64 = S .slots-count in
+    omega arith
 
 pub rest-among : (free : List ℕ) (n : ℕ) → Distinct free → Among n (drop 1 free) → Among n free × (n ≡ next-free free → ⊥)
 rest-among [] n d m = elim m [ ]

@@ -3,8 +3,7 @@ use mathlib.Core.Path.{_≡_, refl, sym, ap, ap₂, _∙_, subst, subst₂}
 use mathlib.Core.Logic.{_⊎_, inl, inr}
 use mathlib.Core.Bool.{Bool, true, false, not, cond, _||_}
 use mathlib.Core.List.{List, [], _∷_, _++_}
-use Prim.Native.Nat.{ℕ, suc, _+_, _-_, _≤_, _<_}
-use native.Mathlib.Omega.{arith}
+use Prim.Native.Nat.{ℕ, suc, _+_, _-_, _<_}
 use lib.Dec.{eqb, leb}
 use lib.ListN.{length}
 use Rattle.std.specs.declared.option.Option.{Option}
@@ -18,7 +17,7 @@ use Rattle.supply.specs.declared.answers.Opens.the-variants.{Closed, ReservedBi
 use Rattle.supply.specs.declared.answers.Greets.{Greets}
 use Rattle.supply.specs.declared.answers.Greets.the-variants.{Yes, TransportError, Other}
 use Rattle.model.specs.Endpoint
-use Rattle.model.specs.Endpoint.{Conn, Waiting, Target, to-attempt, to-connection, State, Config, Supply, Outcome, first-cause, is-none, is-held, sequenced, grants, Search, none-left, found, several, saturated, without, with-spent, new-conn, with-accepted, with-drained, conn-holding, conn-less, with-retired, with-sender, or-else, held-route, initial-route, route}
+use Rattle.model.specs.Endpoint.{Conn, Waiting, Target, to-attempt, to-connection, State, Config, Supply, Outcome, first-cause, is-none, is-held, sequenced, grants, Search, none-left, found, several, without, with-spent, new-conn, with-accepted, with-drained, conn-holding, conn-less, with-retired, with-sender, or-else, held-route, initial-route, route}
 use Rattle.model.specs.Calls
 use Rattle.model.specs.Calls.{gives, next-free, in-slot, brought, held-at, sealed, sealed-grants, Room}
 use Rattle.model.specs.Runs
@@ -26,7 +25,7 @@ use Rattle.model.specs.Runs.{Setup, config, supply-at, Attempt, own, foreign, 
 use Rattle.model.specs.Words.{Among, event-for, granted, begun, drains, retires, sends, ends, loses, names, spends}
 use Rattle.model.proofs.Keys.{up-read, among-append, among-left, among-right, among-kept, kept-among}
 use Rattle.model.proofs.Naming.{none-some, some-same, Apart, SeveralFound, several-found}
-use Rattle.model.proofs.Sound.{Sound, next-among, in-slot-among, reset-sound, kept-sound, open-sound, spent-sound, accept-sound, drain-sound, issued-sound, retired-sound, sender-sound}
+use Rattle.model.proofs.Sound.{Sound, a-slot, next-among, in-slot-among, reset-sound, kept-sound, open-sound, spent-sound, accept-sound, drain-sound, issued-sound, retired-sound, sender-sound}
 use Rattle.model.proofs.Agree.{Alive, At, Agrees, Silent, at-silent, at-event, at-named, at-drained, at-accepted, placing-silent, placing-kept, placing-opened, placing-spent, spent-slots}
 
 -- no test of the list holds
@@ -148,17 +147,10 @@ module _ (U : Setup) (token : Id → Token) (w : World) (told : List Entry) (n :
           };
         }
 
-    a-slot : saturated c s ≡ false → 0 < length (s .free-slots)
-    a-slot f =
-        let few : length (s .waiting) < U .settings .«max_incoming» = leb-false (U .settings .«max_incoming») (length (s .waiting)) (or-parts (Endpoint.is-exhausted c s) (leb (U .settings .«max_incoming») (length (s .waiting))) f .1) in
-        let most : U .settings .«max_incoming» ≤ 64 = U .few in
-        let all : length (s .waiting) + length (s .free-slots) ≡ 64 = S .slots-count in
-        omega arith
-
     first-good : (empty (d .dst) ≡ false → s .initial (d .dst) ≡ None) → (o : Option ℕ) → first-cause (Calls.first-causes c s d) ≡ o → Good call (Calls.first-by c u s d o)
     first-good off (Some k) e = refused-good call (λ h. refl) k
     first-good off None e = cond-both (Calls.bad-length c d) (Calls.close-now u s 0x0a d) (Calls.open-by u s d (c .door .opens d)) (Good call) (λ _. closing-good 0x0a)
-        (λ _. open-good (a-slot (first-passed (Calls.first-causes c s d) e .1 .0)) off (c .door .opens d))
+        (λ _. open-good (a-slot (U .generator .len) c s S (U .few) (first-passed (Calls.first-causes c s d) e .1 .0)) off (c .door .opens d))
 
     keep-good : (slot : ℕ) (o : Option ℕ) → Good call (Calls.keep-by s d slot o)
     keep-good slot (Some k) = refused-good call (λ h. refl) k

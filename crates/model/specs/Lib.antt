@@ -5,3 +5,4 @@ pub mod Runs
 pub mod Words
 pub mod Theorem
 pub mod Rfc9000
+pub mod Cases

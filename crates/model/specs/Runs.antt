@@ -34,6 +34,7 @@ pub record Endpoint : Type 0 where
   pub signer : List ℕ → List ℕ
   pub long : (message : List ℕ) → length (signer message) ≡ 32
 
+-- a setup, its supplies apart
 abbrev pub config : Setup → Config
 config U = record { settings = U .settings; places = U .places; number = U .number; len = U .generator .len; door = U .door }
 
@@ -42,6 +43,7 @@ pub data Attempt : Type 0 where
   own : ℕ → Attempt
   foreign : Incoming → Attempt
 
+-- a call of each of the five kinds, with its arguments
 pub data Call : Type 0 where
   handles : Datagram → ℕ → Call
   accepts : Attempt → ℕ → Option Settings → Room → Call
@@ -75,9 +77,11 @@ pub record World : Type 0 where
   pub ids-used : ℕ
   pub bytes-used : ℕ
 
+-- a new endpoint, before any call
 abbrev pub new-world : World
 new-world = record { state = new-state; slots = λ k. None; ids-used = 0; bytes-used = 0 }
 
+-- the supplies as they stand after the calls so far
 abbrev pub supply-at : Setup → World → Supply
 supply-at U w = record {
   next-id = λ i. U .generator .draw (w .ids-used + i);
@@ -90,6 +94,7 @@ abbrev pub in-hand : ℕ → Option ℕ → Option Incoming
 in-hand number None = None
 in-hand number (Some slot) = Some (record { number = number; slot = slot })
 
+-- the attempt that a call brings
 abbrev pub incoming : ℕ → (ℕ → Option ℕ) → Attempt → Option Incoming
 incoming number slots (own k) = in-hand number (slots k)
 incoming number slots (foreign a) = cond (eqb (a .number) number) None (Some a)
@@ -99,6 +104,7 @@ abbrev pub with-attempt : State → (Incoming → Outcome) → Option Incoming �
 with-attempt s f None = gives (refused 5) s
 with-attempt s f (Some a) = f a
 
+-- what a call comes to
 unfoldable pub outcome-of : Config → Supply → State → (ℕ → Option ℕ) → Call → Outcome
 outcome-of c u s slots (handles d room) = handle c u s d room
 outcome-of c u s slots (accepts a now given room) = with-attempt s (λ i. accept c u s i now given room) (incoming (c .number) slots a)
@@ -106,6 +112,7 @@ outcome-of c u s slots (refuses a) = with-attempt s (λ i. refuse c u s i) (inco
 outcome-of c u s slots (ignores a) = with-attempt s (λ i. ignore c s i) (incoming (c .number) slots a)
 outcome-of c u s slots (handles-event h e) = handle-event u s h e
 
+-- what a call comes to after the calls so far
 abbrev pub outcome : Setup → World → Call → Outcome
 outcome U w call = outcome-of (config U) (supply-at U w) (w .state) (w .slots) call
 
@@ -123,6 +130,7 @@ spent-by ignored = true
 spent-by (issued gs) = true
 spent-by done = true
 
+-- whether an attempt is the one that the call labelled k opened
 abbrev pub is-own : ℕ → Attempt → Bool
 is-own k (own j) = eqb k j
 is-own k (foreign a) = false
@@ -149,13 +157,16 @@ opened-slot ignored = None
 opened-slot (issued gs) = None
 opened-slot done = None
 
+-- the slots with one more, if there is one
 abbrev pub put-slot : (ℕ → Option ℕ) → ℕ → Option ℕ → (ℕ → Option ℕ)
 put-slot f k None = f
 put-slot f k (Some s) = update eqb f k (Some s)
 
+-- the slots of the attempts that the host holds after a call
 abbrev pub slots-after : (ℕ → Option ℕ) → ℕ → Call → Answer → (ℕ → Option ℕ)
 slots-after f label call answer = put-slot (λ k. cond (spent-by answer && brings k call) None (f k)) label (opened-slot answer)
 
+-- the world after a call that came to this
 abbrev pub world-with : World → Labelled → Outcome → World
 world-with w c o = record {
   state = o .state;
@@ -164,6 +175,7 @@ world-with w c o = record {
   bytes-used = w .bytes-used + o .bytes-drawn;
 }
 
+-- the world after one more call
 abbrev pub next : Setup → World → Labelled → World
 next U w c = world-with w c (outcome U w (c .call))
 
@@ -172,6 +184,7 @@ unfoldable pub after : Setup → List Labelled → World
 after U [] = new-world
 after U (c ∷ earlier) = next U (after U earlier) c
 
+-- what is told of a call that came to this
 abbrev pub entry-of : Setup → (Id → Token) → World → Labelled → Outcome → Entry
 entry-of U token w c o = record {
   label = c .label;
@@ -181,6 +194,7 @@ entry-of U token w c o = record {
   bytes = row (supply-at U w .next-byte) 0 (o .bytes-drawn);
 }
 
+-- what is told of one more call
 abbrev pub entry : Endpoint → World → Labelled → Entry
 entry E w c = entry-of (E .setup) (token-of (E .signer)) w c (outcome (E .setup) w (c .call))
 

@@ -40,9 +40,11 @@ granted h None (issued gs) = []
 granted h (Some e) (issued gs) = gs
 granted h event done = []
 
+-- the identifiers that an entry gives to the connection h
 abbrev pub grants-to : Entry → ℕ → List Grant
 grants-to e h = granted h (event-for h (e .call)) (e .answer)
 
+-- the first of some datagrams
 abbrev pub head-of : List Datagram → Option Datagram
 head-of [] = None
 head-of (d ∷ ds) = Some d
@@ -79,6 +81,7 @@ is-refusal n done = false
 abbrev pub taken-in : Answer → Bool
 taken-in a = not (is-refusal 3 a)
 
+-- an event ends its connection
 abbrev pub drains : Option Event → Answer → Bool
 drains None a = false
 drains (Some (need n)) a = false
@@ -86,6 +89,7 @@ drains (Some (retire q more)) a = false
 drains (Some (reset-token r)) a = false
 drains (Some drained) a = taken-in a
 
+-- an event gives up the sequence q
 abbrev pub retires : ℕ → Option Event → Answer → Bool
 retires q None a = false
 retires q (Some (need n)) a = false
@@ -93,6 +97,7 @@ retires q (Some (retire p more)) a = taken-in a && eqb p q
 retires q (Some (reset-token r)) a = false
 retires q (Some drained) a = false
 
+-- the remote and token that an event names
 abbrev pub sends : Option Event → Answer → Option Sender
 sends None a = None
 sends (Some (need n)) a = None
@@ -116,6 +121,7 @@ names e h = sends (event-for h (e .call)) (e .answer)
 abbrev pub spends : Entry → ℕ → Bool
 spends e k = spent-by (e .answer) && brings k (e .call)
 
+-- the datagram that a call hands over
 abbrev pub datagram-of : Call → Option Datagram
 datagram-of (handles d room) = Some d
 datagram-of (accepts a now given room) = None
@@ -188,20 +194,22 @@ abbrev pub came-to-nothing : List Entry → ℕ → Bool
 came-to-nothing [] k = false
 came-to-nothing (e ∷ told) k = (to-nothing (e .answer) && brings k (e .call)) || came-to-nothing told k
 
--- the label of the call that last opened the slot s
+-- whether a slot is s
 abbrev pub is-slot : ℕ → Option ℕ → Bool
 is-slot s None = false
 is-slot s (Some t) = eqb t s
 
+-- the label of the call that last opened the slot s
 abbrev pub occupant : List Entry → ℕ → Option ℕ
 occupant [] s = None
 occupant (e ∷ told) s = cond (is-slot s (opened-slot (e .answer))) (Some (e .label)) (occupant told s)
 
--- the attempt that an entry is about, `told` being what is told of the calls before it: opened by it, fed by it, or brought by it
+-- the label of the call that opened an attempt of this endpoint
 abbrev pub own-label : Attempt → Option ℕ
 own-label (own k) = Some k
 own-label (foreign a) = None
 
+-- the attempt that a datagram opens or waits for, by the label of the call that opened it
 abbrev pub handled-for : List Entry → ℕ → Answer → Option ℕ
 handled-for told k (refused c) = None
 handled-for told k (delivered h) = None
@@ -215,6 +223,7 @@ handled-for told k ignored = None
 handled-for told k (issued gs) = None
 handled-for told k done = None
 
+-- the attempt that an entry is about, `told` being what is told of the calls before it: opened by it, fed by it, or brought by it
 abbrev pub about : List Entry → ℕ → Call → Answer → Option ℕ
 about told k (handles d room) a = handled-for told k a
 about told k (accepts i now given room) a = own-label i
@@ -222,6 +231,7 @@ about told k (refuses i) a = own-label i
 about told k (ignores i) a = own-label i
 about told k (handles-event h e) a = None
 
+-- whether p holds of a value that is there
 abbrev pub holds-of : (ℕ → Bool) → Option ℕ → Bool
 holds-of p None = false
 holds-of p (Some k) = p k
@@ -255,11 +265,12 @@ abbrev pub recalled : List Entry → List Labelled
 recalled [] = []
 recalled (e ∷ told) = record { label = e .label; call = e .call } ∷ recalled told
 
--- what the calls drew, in order
+-- the identifiers that the calls drew, in order
 abbrev pub drawn-ids : List Entry → List Id
 drawn-ids [] = []
 drawn-ids (e ∷ told) = drawn-ids told ++ e .ids
 
+-- the bytes that the calls drew, in order
 abbrev pub drawn-bytes : List Entry → List ℕ
 drawn-bytes [] = []
 drawn-bytes (e ∷ told) = drawn-bytes told ++ e .bytes
@@ -280,9 +291,11 @@ slotless ignored = ignored
 slotless (issued gs) = issued gs
 slotless done = done
 
+-- a token with every byte at 0
 abbrev pub blank : Token → Token
 blank t = map (λ b. 0) t
 
+-- identifiers given, with every byte of a token at 0
 abbrev pub blank-grants : List Grant → List Grant
 blank-grants [] = []
 blank-grants (g ∷ gs) = record { sequence = g .sequence; id = g .id; token = blank (g .token) } ∷ blank-grants gs
@@ -301,12 +314,17 @@ tokenless ignored = ignored
 tokenless (issued gs) = issued (blank-grants gs)
 tokenless done = done
 
--- a call with its answer and the bytes that it wrote, as f shows the answer
+-- a call with its answer and the bytes that it wrote
 pub record Shown : Type 0 where
   pub label : ℕ
   pub call : Call
   pub answer : Answer
   pub bytes : List ℕ
 
+-- a call with an answer
+abbrev pub shown : ℕ → Call → Answer → Shown
+shown label call answer = record { label = label; call = call; answer = answer; bytes = written answer }
+
+-- an entry, as f shows its answer
 abbrev pub show : (Answer → Answer) → Entry → Shown
-show f e = record { label = e .label; call = e .call; answer = f (e .answer); bytes = written (f (e .answer)) }
+show f e = shown (e .label) (e .call) (f (e .answer))
