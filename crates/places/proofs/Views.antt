@@ -1,18 +1,18 @@
 -- From the places, and the blocks that they name, to the entries.
-use mathlib.Core.Path.{_≡_, refl, sym, ap, subst, _∙_}
+use mathlib.Core.Path.{_≡_, refl, sym, ap, _∙_}
 use mathlib.Core.List.{List, [], _∷_, _++_, map}
 use mathlib.Core.Bool.{Bool, true, false, cond, not, _&&_}
-use mathlib.Core.Logic.{_≢_, inl, inr}
+use mathlib.Core.Logic.{_≢_}
 use Prim.Native.Nat.{ℕ, _+_, _<_, _≤_}
 use native.Mathlib.Omega.{arith}
 use lib.Dec.{eqb, ltb, leb}
 use lib.ListN.{length, getD, take, drop, set}
 use Rattle.std.specs.declared.option.Option.the-variants.{Some}
-use Rattle.std.specs.shelf.Lists.{sumBy, countBy, kept-by}
+use Rattle.std.specs.shelf.Lists.{sumBy, kept-by}
 use Rattle.std.proofs.shelf.Lists.{length-map, getD-map, length-take-le, take-all, take-more-set, map-push, take-at, getD-set-same, getD-set-other}
 use Rattle.std.proofs.shelf.Sums.{sumBy-cons, sumBy-more, sumBy-take-le, sumBy-set, sumBy-push, getD-le-sumBy}
 use Rattle.std.proofs.shelf.Filters.{sumBy-kept-by-both}
-use Rattle.std.proofs.shelf.Tests.{cond-true, cond-false, cases-bool, and-parts, eqb-true, eqb-false, eq-eqb, ltb-true, leb-true, lt-ltb, le-leb, le-ltb, and-from, and-right}
+use Rattle.std.proofs.shelf.Tests.{cond-true, and-parts, eqb-true, eqb-false, eq-eqb, ltb-true, leb-true, lt-ltb, le-leb, and-from}
 use Rattle.places.specs.declared.record.Place.{Place}
 use Rattle.records.specs.declared.packet.Datagram.{Datagram}
 use Rattle.std.proofs.shelf.Lists.{length-set, getD-default}

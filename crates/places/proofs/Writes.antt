@@ -1,12 +1,12 @@
 -- A loop that writes what passes a test, one after another.
 use mathlib.Core.Path.{_≡_, refl, sym, ap, _∙_}
-use mathlib.Core.List.{List, [], _∷_, _++_, map}
+use mathlib.Core.List.{List, [], _∷_, _++_}
 use mathlib.Core.Bool.{Bool, true, false, cond}
 use Prim.Native.Nat.{ℕ, _+_, _*_, _<_, _≤_}
 use native.Mathlib.Omega.{arith}
 use lib.ListN.{length, getD, take, drop, set}
-use Rattle.std.specs.shelf.Lists.{kept-by, joined}
-use Rattle.std.proofs.shelf.Lists.{append-assoc, append-nil, length-append, length-push, drop-drop, drop-at, take-at, take-all, set-at, drop-more, joined-more, map-push, length-map, getD-map}
+use Rattle.std.specs.shelf.Lists.{kept-by}
+use Rattle.std.proofs.shelf.Lists.{append-assoc, append-nil, length-append, length-push, drop-drop, drop-at, take-at, take-all, set-at, drop-more, joined-more, map-push, length-map}
 use Rattle.std.proofs.shelf.Elements.{kept-by-more}
 use Rattle.std.proofs.shelf.Tests.{cond-true, cond-false}
 use Rattle.records.specs.declared.packet.Kept.{Kept}

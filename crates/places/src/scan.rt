@@ -1,10 +1,8 @@
 use crate::record::Place;
 use records::packet::Datagram;
 ghost use mathlib.Core.Path.{_≡_};
-ghost use mathlib.Core.List.{List, _++_, []};
-ghost use mathlib.Core.Bool.{true, false, cond};
-ghost use Prim.Native.Nat.{ℕ, _+_, _-_, _*_, _<_, _≤_};
-ghost use lib.ListN.{length, getD, set, take, drop};
+ghost use Prim.Native.Nat.{ℕ, _+_, _-_, _<_, _≤_};
+ghost use lib.ListN.{length, take};
 ghost use Rattle.std.specs.shelf.Lists.{sumBy, countBy, kept-by};
 ghost use Rattle.places.specs.declared.record.Place.{Place};
 ghost use Rattle.places.specs.Entries.{oversized, place-weight, place-of, place-other, place-first};

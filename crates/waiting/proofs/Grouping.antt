@@ -1,24 +1,24 @@
 -- The datagrams in order of arrival, and the attempts that they make up.
-use mathlib.Core.Path.{_≡_, refl, sym, ap, subst, _∙_}
+use mathlib.Core.Path.{_≡_, refl, sym, ap, _∙_}
 use mathlib.Core.List.{List, [], _∷_, _++_, map}
-use mathlib.Core.Bool.{Bool, true, false, cond, not, _&&_}
-use mathlib.Core.Logic.{_⊎_, inl, inr}
-use Prim.Native.Nat.{ℕ, _+_, _*_, _≤_}
+use mathlib.Core.Bool.{Bool, true, false, cond, _&&_}
+use mathlib.Core.Logic.{inl, inr}
+use Prim.Native.Nat.{ℕ, _+_, _*_}
 use native.Mathlib.Nat.{add-zero, zero-add, add-mul}
 use native.Mathlib.Omega.{arith}
 use lib.Dec.{eqb}
 use lib.ListN.{length}
 use Rattle.std.specs.declared.option.Option.{Option}
 use Rattle.std.specs.declared.option.Option.the-variants.{Some, None}
-use Rattle.std.specs.shelf.Lists.{folded, kept-by, sumBy}
-use Rattle.std.proofs.shelf.Lists.{append-nil, append-assoc, length-append, length-map, length-push}
+use Rattle.std.specs.shelf.Lists.{folded, sumBy}
+use Rattle.std.proofs.shelf.Lists.{append-nil, append-assoc, length-map, length-push}
 use Rattle.std.proofs.shelf.Sums.{folded-push, sumBy-cons}
-use Rattle.std.proofs.shelf.Tests.{cond-true, cond-false, cases-bool, cases-eq, and-parts, and-from, eqb-true, eqb-false, eq-eqb, ne-eqb}
-use Rattle.places.specs.Entries.{Entry, weight, total, mine, attempts}
+use Rattle.std.proofs.shelf.Tests.{cond-true, cond-false, cases-bool, cases-eq, and-parts, and-from, eqb-true, eq-eqb, ne-eqb}
+use Rattle.places.specs.Entries.{Entry, weight, mine, attempts}
 use Rattle.records.specs.Received.{Datagram, size}
-use Rattle.model.specs.Endpoint.{Waiting, sum-of, kept-bytes, waiting-total, attempt-bytes, places-used, add-kept}
+use Rattle.model.specs.Endpoint.{Waiting, sum-of, kept-bytes, waiting-total, add-kept}
 use Rattle.model.specs.Calls.{in-slot}
-use Rattle.waiting.specs.Groups.{in-place, sent, opened, add, groups, holding, comes, proper-from, proper, of-slots, grouped}
+use Rattle.waiting.specs.Groups.{in-place, sent, opened, add, holding, comes, proper-from, of-slots, grouped}
 use Rattle.waiting.specs.Laws as laws
 
 -- ## One more

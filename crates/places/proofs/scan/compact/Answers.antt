@@ -1,8 +1,7 @@
-use mathlib.Core.Path.{_≡_, refl, sym, ap, _∙_}
+use mathlib.Core.Path.{_∙_}
 use Prim.Native.Nat.{_<_}
 use native.Mathlib.Omega.{arith}
 use lib.ListN.{length, getD}
-use Rattle.std.specs.shelf.Lists.{sumBy}
 use Rattle.std.proofs.shelf.Lists.{getD-default}
 use Rattle.std.proofs.shelf.Filters.{keeping-more-no, keeping-more-swap}
 use Rattle.std.proofs.shelf.Sorted.{sumBy-shuffled}

@@ -1,4 +1,4 @@
-use mathlib.Core.Path.{_≡_, refl, ap, _∙_}
+use mathlib.Core.Path.{refl, ap, _∙_}
 use mathlib.Core.List.{_∷_, [], reverse}
 use lib.ListN.{take, length-set}
 use Rattle.std.proofs.shelf.Lists.{take-more-set, reverse-append}
