@@ -40,8 +40,8 @@ returns g c =
     let is = ap (stray-by (supply-of u) (state-of e) d) (ap (mapped cause-number) (sym (c .in-rest .is)) ∙ c .stray-cause .ensures) in
     λ k. subst (Answered e _ u _ o _ k k d (Reset (c .write-reset-n .result))) (reset-outcome u (state-of e) d ∙ is) (record {
       answer =
-        ap (λ r. reset-of d (take (c .write-reset-n .result) r)) (w .bytes)
-        ∙ reset-read d xs token o (c .write-reset-n .result) sixteen (w .value ∙ ap (λ m. m + 16) (sym long));
+          ap (λ r. reset-of d (take (c .write-reset-n .result) r)) (w .bytes)
+          ∙ reset-read d xs token o (c .write-reset-n .result) sixteen (w .value ∙ ap (λ m. m + 16) (sym long));
       number = tt;
       state = refl;
       drawn = w .after;
