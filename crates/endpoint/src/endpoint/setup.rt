@@ -101,4 +101,11 @@ impl<'a> Endpoint<'a> {
     {
         self.ready
     }
+
+    /// The number that its attempts bear.
+    pub fn number(&self) -> u32
+        ensures { λ r. ⌜ r ≡ now (self .entry) .number ⌝ }
+    {
+        self.number
+    }
 }
