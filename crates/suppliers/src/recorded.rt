@@ -1,0 +1,38 @@
+use supply::supply::ByteSource;
+ghost use mathlib.Core.Path.{_≡_};
+ghost use Prim.Native.Nat.{ℕ, _<_};
+ghost use lib.ListN.{getD};
+ghost use Rattle.std.specs.Of.Vec.{vec-items};
+ghost use Rattle.suppliers.specs.Bytes.{recorded-from};
+
+/// Recorded bytes, and then zeros.
+#[derive(Drop)]
+pub struct Recorded {
+    bytes: Vec<u8>,
+    at: usize,
+    ghost small: { (k : ℕ) → getD (vec-items bytes) k 0 < 256 },
+}
+
+impl Recorded {
+    /// The source of these bytes, from the first.
+    pub fn new(bytes: Vec<u8>) -> Recorded
+        ensures held { λ r. ⌜ r .bytes ≡ bytes ⌝ }
+        ensures start { λ r. ⌜ r .at ≡ 0 ⌝ }
+    {
+        Recorded { bytes, at: 0 }
+    }
+}
+
+pub impl ByteSource for Recorded as RecordedBytes {
+    ghost feeds = { λ s. recorded-from (vec-items (s .bytes)) (s .at) };
+
+    fn next_byte(&mut self) -> u8 {
+        if self.at < self.bytes.len() {
+            let b = self.bytes[self.at];
+            self.at += 1;
+            b
+        } else {
+            0
+        }
+    }
+}
