@@ -49,7 +49,10 @@ impl ListGenerator {
     pub fn new(ids: &[ConnectionId]) -> Result<ListGenerator, Cause>
         ensures { λ r. ⌜ ByOk r (λ g. (list-fits (now (ids .entry)) ≡ true) × (take (g .count) (g .ids) ≡ now (ids .entry)) × (g .at ≡ 0)) (λ e. (list-fits (now (ids .entry)) ≡ false) × (e ≡ SetUp)) ⌝ }
     {
-        if ids.len() == 0 || !all_of(ids[0].len(), ids) {
+        if ids.len() == 0 {
+            return Err(Cause::SetUp);
+        }
+        if !all_of(ids[0].len(), ids) {
             return Err(Cause::SetUp);
         }
         match filled(ids, ConnectionId::empty()) {

@@ -13,12 +13,22 @@ pub struct Recorded {
     ghost small: { (k : ℕ) → getD (vec-items bytes) k 0 < 256 },
 }
 
+// That a slice holds bytes is known where one is read, so this reads the first.
+fn are_bytes(bytes: &[u8])
+    ensures { λ _. ⌜ ((k : ℕ) → getD (now (bytes .entry)) k 0 < 256) ⌝ }
+{
+    if bytes.len() > 0 {
+        let _first = bytes[0];
+    }
+}
+
 impl Recorded {
     /// The source of these bytes, from the first.
     pub fn new(bytes: Vec<u8>) -> Recorded
         ensures held { λ r. ⌜ r .bytes ≡ bytes ⌝ }
         ensures start { λ r. ⌜ r .at ≡ 0 ⌝ }
     {
+        are_bytes(bytes.as_slice());
         Recorded { bytes, at: 0 }
     }
 }

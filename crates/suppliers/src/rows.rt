@@ -35,8 +35,9 @@ fn first_row(rows: &[Row], version: u32) -> Option<Row>
     ensures { λ r. ⌜ r ≡ row-for (now (rows .entry)) version ⌝ }
 {
     for i in 0..rows.len() {
-        if rows[i].version == version {
-            return Some(rows[i]);
+        let row = rows[i];
+        if row.version == version {
+            return Some(row);
         }
     }
     None
