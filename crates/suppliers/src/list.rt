@@ -4,10 +4,11 @@ use records::shared::ConnectionId;
 use supply::supply::ConnectionIdGenerator;
 ghost use mathlib.Core.Path.{_≡_};
 ghost use mathlib.Core.Bool.{true, false};
-ghost use Prim.Native.Nat.{_<_, _≤_};
-ghost use lib.ListN.{length, take};
+ghost use Prim.Native.Nat.{_+_, _%_, _<_, _≤_};
+ghost use lib.ListN.{length, getD, take};
 ghost use Rattle.std.specs.Results.{Cases as ByOk};
 ghost use Rattle.records.specs.declared.cause.Cause.the-variants.{SetUp};
+ghost use Rattle.records.specs.Ids.{no-id};
 ghost use Rattle.suppliers.specs.Lists.{all-of, list-fits, listed, in-turn};
 
 /// The identifiers of a list in turn, which begins again after the last.
@@ -20,6 +21,15 @@ pub struct ListGenerator {
     ghost few: { count ≤ 32 },
     ghost within: { at < count },
     ghost fits: { list-fits (take count ids) ≡ true },
+}
+
+fn len_of(ids: &[ConnectionId]) -> usize
+    ensures { λ r. ⌜ r ≡ getD (now (ids .entry)) 0 no-id .len ⌝ }
+{
+    if ids.len() == 0 {
+        return 0;
+    }
+    ids[0].len()
 }
 
 fn all_of(len: usize, ids: &[ConnectionId]) -> bool
@@ -44,6 +54,13 @@ fn is_listed(ids: &[ConnectionId], cid: &ConnectionId) -> bool
     false
 }
 
+fn place_after(at: usize, count: usize) -> usize
+    requires { ⌜ at < count ⌝ }
+    ensures { λ r. ⌜ r ≡ (at + 1) % count ⌝ }
+{
+    (at + 1) % count
+}
+
 impl ListGenerator {
     /// The generator of a list of 1 to 32 identifiers of one length.
     pub fn new(ids: &[ConnectionId]) -> Result<ListGenerator, Cause>
@@ -52,7 +69,7 @@ impl ListGenerator {
         if ids.len() == 0 {
             return Err(Cause::SetUp);
         }
-        if !all_of(ids[0].len(), ids) {
+        if !all_of(len_of(ids), ids) {
             return Err(Cause::SetUp);
         }
         match filled(ids, ConnectionId::empty()) {
@@ -71,7 +88,7 @@ pub impl ConnectionIdGenerator for ListGenerator as ListGeneratorIds {
 
     fn generate_cid(&mut self) -> ConnectionId {
         let id = self.ids[self.at];
-        self.at = (self.at + 1) % self.count;
+        self.at = place_after(self.at, self.count);
         id
     }
 
@@ -80,6 +97,6 @@ pub impl ConnectionIdGenerator for ListGenerator as ListGeneratorIds {
     }
 
     fn cid_len(&self) -> usize {
-        self.ids[0].len()
+        len_of(&self.ids[0..self.count])
     }
 }

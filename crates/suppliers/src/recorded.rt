@@ -1,7 +1,7 @@
 use supply::supply::ByteSource;
 ghost use mathlib.Core.Path.{_≡_};
-ghost use Prim.Native.Nat.{ℕ, _<_};
-ghost use lib.ListN.{getD};
+ghost use Prim.Native.Nat.{ℕ, _<_, _≤_};
+ghost use lib.ListN.{length, getD};
 ghost use Rattle.std.specs.Of.Vec.{vec-items};
 ghost use Rattle.suppliers.specs.Bytes.{recorded-from};
 
@@ -22,6 +22,16 @@ fn are_bytes(bytes: &[u8])
     }
 }
 
+fn byte_at(bytes: &[u8], at: usize) -> u8
+    ensures inside { λ r. ⌜ (at < length (now (bytes .entry)) → r ≡ getD (now (bytes .entry)) at 0) ⌝ }
+    ensures past { λ r. ⌜ (length (now (bytes .entry)) ≤ at → r ≡ 0) ⌝ }
+{
+    if at < bytes.len() {
+        return bytes[at];
+    }
+    0
+}
+
 impl Recorded {
     /// The source of these bytes, from the first.
     pub fn new(bytes: Vec<u8>) -> Recorded
@@ -37,12 +47,10 @@ pub impl ByteSource for Recorded as RecordedBytes {
     ghost feeds = { λ s. recorded-from (vec-items (s .bytes)) (s .at) };
 
     fn next_byte(&mut self) -> u8 {
+        let b = byte_at(self.bytes.as_slice(), self.at);
         if self.at < self.bytes.len() {
-            let b = self.bytes[self.at];
             self.at += 1;
-            b
-        } else {
-            0
         }
+        b
     }
 }
