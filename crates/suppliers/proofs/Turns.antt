@@ -1,16 +1,16 @@
 -- Lists of identifiers in turn.
 use mathlib.Core.Path.{_≡_, refl, sym, ap, _∙_}
-use mathlib.Core.Bool.{true, _&&_}
+use mathlib.Core.Bool.{Bool, true, _&&_, _||_}
 use mathlib.Core.List.{List, [], _∷_}
 use Prim.Native.Nat.{ℕ, zero, suc, _+_, _%_, _≤_, _<_}
 use native.Mathlib.Nat.{mod-lt, mod-add-mod, mod-eq-of-lt}
 use native.Mathlib.Omega.{arith}
 use lib.Dec.{leb}
-use lib.ListN.{length, getD, take}
-use Rattle.std.proofs.shelf.Lists.{getD-default, getD-take, length-take-le}
+use lib.ListN.{length, getD, take, drop}
+use Rattle.std.proofs.shelf.Lists.{at-drop-more, getD-default, getD-take, length-take-le}
 use Rattle.std.proofs.shelf.Tests.{eqb-true, and-parts, or-left, or-right, leb-true}
 use Rattle.records.specs.declared.shared.ConnectionId.{ConnectionId}
-use Rattle.records.specs.Ids.{no-id}
+use Rattle.records.specs.Ids.{same-id, no-id}
 use Rattle.records.proofs.Same.{same-id-decides}
 use Rattle.supply.specs.Meaning.{Lawful, shifted}
 use Rattle.suppliers.specs.Lists.{all-of, list-fits, listed, in-turn}
@@ -24,6 +24,10 @@ listed-at : (xs : List ConnectionId) (i : ℕ) (d : ConnectionId) → i < length
 listed-at [] i d h = absurd (omega arith)
 listed-at (x ∷ xs) zero d h = or-left _ _ (same-id-decides x x .1 refl)
 listed-at (x ∷ xs) (suc i) d h = or-right _ _ (listed-at xs i d (omega arith))
+
+-- a search of a list, one identifier on
+pub listed-more : (xs : List ConnectionId) (i : ℕ) (x y : ConnectionId) (b : Bool) → i < length xs → x ≡ getD xs i x → b ≡ same-id x y → listed (drop i xs) y ≡ (b || listed (drop (i + 1) xs) y)
+listed-more xs i x y b h e t = at-drop-more (λ l. listed l y) xs i x h ∙ ap (λ z. same-id z y || listed (drop (i + 1) xs) y) (sym e) ∙ ap (λ a. a || listed (drop (i + 1) xs) y) (sym t)
 
 -- a list that fits keeps a generator's laws
 pub in-turn-lawful : (xs : List ConnectionId) (at : ℕ) → list-fits xs ≡ true → Lawful (in-turn xs at)

@@ -58,7 +58,8 @@ fn place_after(at: usize, count: usize) -> usize
     requires { ⌜ at < count ⌝ }
     ensures { λ r. ⌜ r ≡ (at + 1) % count ⌝ }
 {
-    (at + 1) % count
+    let next = at + 1;
+    next % count
 }
 
 impl ListGenerator {

@@ -26,10 +26,10 @@ fn byte_at(bytes: &[u8], at: usize) -> u8
     ensures inside { λ r. ⌜ (at < length (now (bytes .entry)) → r ≡ getD (now (bytes .entry)) at 0) ⌝ }
     ensures past { λ r. ⌜ (length (now (bytes .entry)) ≤ at → r ≡ 0) ⌝ }
 {
-    if at < bytes.len() {
-        return bytes[at];
+    if at >= bytes.len() {
+        return 0;
     }
-    0
+    bytes[at]
 }
 
 impl Recorded {
