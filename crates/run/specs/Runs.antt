@@ -62,6 +62,6 @@ pub record Ran (E : runs.Endpoint) (bytes : List ℕ) (calls : List called.Call)
   pub wrote : (i : ℕ) → i < n → getD blocks′ i [] ≡ over (records.written (answer-at bytes calls blocks′ answers′ i)) (getD blocks i [])
   pub spared : (i : ℕ) → n ≤ i → (getD blocks′ i [] ≡ getD blocks i []) × (getD answers′ i Void ≡ getD answers i Void)
 
--- the host lends a place of the pool that is clear, a block and an answer for each of n calls
+-- the host lends a place of the pool, a block and an answer for each of n calls, and no attempt is in the pool
 abbrev pub room-fits : ℕ → List (Option Attempt) → ℕ → ℕ → Bool
-room-fits n pool blocks answers = leb n (length pool) && (leb n blocks && (leb n answers && all-none pool n))
+room-fits n pool blocks answers = leb n (length pool) && (leb n blocks && (leb n answers && all-none pool (length pool)))

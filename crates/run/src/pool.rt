@@ -28,12 +28,11 @@ pub(crate) fn take(pool: &mut [Option<Attempt>], i: usize) -> Option<Attempt>
     mem::replace(&mut pool[i], None)
 }
 
-/// Whether the first `n` hold no attempt.
-pub(crate) fn is_clear(pool: &[Option<Attempt>], n: usize) -> bool
-    requires { ⌜ n ≤ length (now pool) ⌝ }
-    ensures { λ r. ⌜ r ≡ all-none (now (pool .entry)) n ⌝ }
+/// Whether there is no attempt.
+pub(crate) fn is_clear(pool: &[Option<Attempt>]) -> bool
+    ensures { λ r. ⌜ r ≡ all-none (now (pool .entry)) (length (now (pool .entry))) ⌝ }
 {
-    for i in 0..n {
+    for i in 0..pool.len() {
         if let Some(_) = &pool[i] {
             return false;
         }

@@ -49,12 +49,12 @@ fn run_all<S: Supplies>(
 fn room_fits(n: usize, pool: &[Option<Attempt>], blocks: usize, answers: usize) -> bool
     ensures { λ r. ⌜ r ≡ room-fits n (now (pool .entry)) blocks answers ⌝ }
 {
-    pool.len() >= n && blocks >= n && answers >= n && is_clear(pool, n)
+    pool.len() >= n && blocks >= n && answers >= n && is_clear(pool)
 }
 
 /// Runs a list of calls on a new endpoint over given memory: for the call of number `i` the answer goes to `answers[i]`, a reset to the front of
 /// `blocks[i]`, and an attempt that it opens to `pool[i]`, until a later call spends it. It refuses by 2, and does nothing, if the set-up is refused or the
-/// host lends less than one place of each for a call, or a place of the pool that holds an attempt.
+/// host lends less than one place of each for a call, or a pool that holds an attempt.
 pub fn run<'a, S: Supplies>(
     supplies: &mut S,
     memory: Memory<'a>,
