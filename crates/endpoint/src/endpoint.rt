@@ -26,6 +26,7 @@ mod ignore;
 mod keep;
 mod open;
 mod room;
+mod setup;
 mod stray;
 
 /// The server endpoint over its given memory.

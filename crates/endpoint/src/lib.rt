@@ -4,3 +4,4 @@ pub mod handled;
 pub mod input;
 pub mod limits;
 pub mod memory;
+pub mod parts;
