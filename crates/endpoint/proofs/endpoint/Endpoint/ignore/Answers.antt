@@ -15,6 +15,7 @@ use Rattle.waiting.proofs.Slots.{once-spent, once-as, once-held}
 use Rattle.waiting.proofs.Entered.{named-spent, pointed-spent, named-as, pointed-as, no-empty-as, no-empty-put, no-empty-tells, no-empty-told}
 use Rattle.index.specs.Routes.{initial-of}
 use Rattle.endpoint.specs.State.{state-of}
+use Rattle.endpoint.proofs.Answering.{same-frame}
 use Rattle.endpoint.proofs.Arriving.{initial-in, initial-room, same-state}
 use Rattle.endpoint.proofs.Leaving.{brought-none, brings, leaves, ignored-as}
 use Rattle.endpoint.proofs.endpoint.Endpoint.ignore.Needs as need
@@ -112,7 +113,7 @@ returns-in-None c =
       refused = λ n. absurd (both-ways (e .ready) n r);
       ignored = λ _ u.
           ignored-as (ap (ignore-of (state-of e)) (brought-none e (c .args .attempt) r (c .in-None .ensures tt)))
-          (record { answer = refl; back = refl; state = refl; frame = record { ready = refl; settings = refl; number = refl; width = refl } });
+          (record { answer = refl; back = refl; state = refl; frame = same-frame e });
     }
 
 pub returns-in-Some : need.returns-in-Some
