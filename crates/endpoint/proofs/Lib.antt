@@ -1,2 +1,4 @@
 pub mod Answering
 pub mod Starting
+pub mod Arriving
+pub mod Leaving
