@@ -39,10 +39,10 @@ answers-so bytes calls blocks answers zero = []
 answers-so bytes calls blocks answers (suc n) = answer-at bytes calls blocks answers n ∷ answers-so bytes calls blocks answers n
 
 -- the endpoint of the definitions that was set up with these
-pub record Built (E : runs.Endpoint) (settings : Settings) (w number : ℕ) (u : Supplied) : Type 0 where
-  pub settings : E .setup .settings ≡ settings
+pub record Built (E : runs.Endpoint) (given : Settings) (w n : ℕ) (u : Supplied) : Type 0 where
+  pub settings : E .setup .settings ≡ given
   pub places : E .setup .places ≡ w
-  pub number : E .setup .number ≡ number
+  pub number : E .setup .number ≡ n
   pub generator : E .setup .generator ≡ u .generator
   pub source : E .setup .source ≡ u .source
   pub door : E .setup .door ≡ u .door

@@ -30,12 +30,12 @@ abbrev pub outcome : Endpoint → Supplied → (ℕ → Option ℕ) → runs.Cal
 outcome e u slots call = runs.outcome-of (config-of e u) (supply-of u) (state-of e) slots call
 
 -- the call of number i had the outcome o: its answer, the state, what was drawn, the attempts in the host's hands, and its block of output
-pub record Stepped (e f : Endpoint) (u v : Supplied) (pool pool′ : List (Option Attempt)) (block block′ : List ℕ) (bytes : List ℕ) (i : ℕ) (call : called.Call) (slots : ℕ → Option ℕ) (r : said.Answer) (o : Outcome) : Type 0 where
-  pub answer : answer-to bytes call block′ r ≡ sealed (token-of (u .signer)) (o .answer)
+pub record Stepped (e f : Endpoint) (u v : Supplied) (p p′ : List (Option Attempt)) (b b′ : List ℕ) (bytes : List ℕ) (i : ℕ) (call : called.Call) (slots : ℕ → Option ℕ) (r : said.Answer) (o : Outcome) : Type 0 where
+  pub answer : answer-to bytes call b′ r ≡ sealed (token-of (u .signer)) (o .answer)
   pub state : state-of f ≡ o .state
   pub drawn : v ≡ spent (o .ids-drawn) (o .bytes-drawn) u
-  pub pool : Holds (e .number) pool′ (runs.slots-after slots i (call-of bytes call) (o .answer))
-  pub block : block′ ≡ over (written (sealed (token-of (u .signer)) (o .answer))) block
+  pub pool : Holds (e .number) p′ (runs.slots-after slots i (call-of bytes call) (o .answer))
+  pub block : b′ ≡ over (written (sealed (token-of (u .signer)) (o .answer))) b
   pub frame : Frame e f
 
 -- what `handle` says, as a plain value

@@ -1,4 +1,4 @@
 //! Runs a list of calls on a new endpoint.
 pub mod pool;
-pub mod step;
 pub mod run;
+pub mod step;

@@ -30,11 +30,17 @@ ghost use Rattle.run.specs.Steps.{outcome, Stepped, noted, pooled, Ignores};
 
 // What a place for a close holds before one is put there.
 fn blank_close() -> Close {
-    let remote = SocketAddr::V4(SocketAddrV4 { ip: [0; 4], port: 0 });
+    let remote = SocketAddr::V4(SocketAddrV4 {
+        ip: [0; 4],
+        port: 0,
+    });
     Close {
         code: 0,
         version: 0,
-        addresses: FourTuple { remote, local_ip: None },
+        addresses: FourTuple {
+            remote,
+            local_ip: None,
+        },
         dst_cid: ConnectionId::empty(),
         src_cid: ConnectionId::empty(),
     }
