@@ -25,6 +25,7 @@ ghost use Rattle.std.specs.declared.option.Option.the-variants.{None};
 ghost use Rattle.calls.specs.declared.call.Call.the-variants.{Handle};
 ghost use Rattle.calls.specs.declared.call.Brought.the-variants.{Opened, Foreign};
 ghost use Rattle.calls.specs.Lists.{call-of};
+ghost use Rattle.endpoint.specs.State.{Frame};
 ghost use Rattle.run.specs.Pools.{Holds};
 ghost use Rattle.run.specs.Steps.{outcome, Stepped, noted, pooled, Ignores};
 
@@ -163,7 +164,8 @@ pub(crate) fn step<S: Supplies>(
     requires within { ⌜ i < length (now pool) ⌝ }
     requires free { ⌜ getD (now pool) i None ≡ None ⌝ }
     ensures stepped { λ r. ⌜ ((slots : ℕ → OptionOf ℕ) → Holds (now (e .entry) .number) (now (pool .entry)) slots → Stepped (now (e .entry)) (now (e .exit)) (all (now (supplies .entry))) (all (now (supplies .exit))) (now (pool .entry)) (now (pool .exit)) (now (block .entry)) (now (block .exit)) (now (bytes .entry)) i call slots r (outcome (now (e .entry)) (all (now (supplies .entry))) slots (call-of (now (bytes .entry)) call))) ⌝ }
-    ensures later { λ _. ⌜ ((k : ℕ) → i < k → getD (now (pool .exit)) k None ≡ getD (now (pool .entry)) k None) ⌝ }
+    ensures later { λ _. ⌜ ((k : ℕ) → i < k → getD (now (pool .entry)) k None ≡ None → getD (now (pool .exit)) k None ≡ None) ⌝ }
+    ensures frame { λ _. ⌜ Frame (now (e .entry)) (now (e .exit)) ⌝ }
 {
     match call {
         Call::Handle(arrival) => handle_at(e, supplies, pool, block, bytes, i, arrival),
