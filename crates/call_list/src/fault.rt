@@ -1,0 +1,83 @@
+use std::alloc::AllocError;
+use std::alloc::Refused;
+use std::fmt;
+
+/// What is wrong with a line of a call list.
+#[derive(Clone, Copy)]
+pub enum Trouble {
+    /// It is outside the form: this was expected.
+    Expected(&'static str),
+    /// It has this word of the form, which is not there yet.
+    NotYet(&'static str),
+}
+
+/// A line of a call list that is outside the form, or not there yet.
+#[derive(Clone, Copy)]
+pub struct Fault {
+    /// The line's number, from 1: every line of the text counts.
+    pub line: usize,
+    pub trouble: Trouble,
+}
+
+/// Why a call list is not read.
+#[derive(Drop)]
+pub enum Failure {
+    /// There is no memory.
+    Memory,
+    /// The set-up has an identifier of more than 20 bytes: it is refused by cause 2.
+    SetUp,
+    /// A line of the set-up has a fault.
+    Line(Fault),
+}
+
+/// Why a line is not read.
+#[derive(Drop)]
+pub enum Unread {
+    Memory,
+    SetUp,
+    Line(Trouble),
+}
+
+pub impl fmt::Display for Fault as FaultDisplay {
+    fn fmt<W: fmt::Write>(&self, f: &mut fmt::Formatter<W>) -> fmt::Result {
+        let line = self.line;
+        match self.trouble {
+            Trouble::Expected(what) => write!(f, "line {line}: expected {what}"),
+            Trouble::NotYet(word) => write!(f, "line {line}: {word} is not there yet"),
+        }
+    }
+}
+
+pub impl From<AllocError> for Failure as FailureFromAlloc {
+    fn from(_e: AllocError) -> Failure {
+        Failure::Memory
+    }
+}
+
+pub impl<T: Drop> From<Refused<T>> for Failure as FailureFromRefused {
+    fn from(_e: Refused<T>) -> Failure {
+        Failure::Memory
+    }
+}
+
+pub impl From<AllocError> for Unread as UnreadFromAlloc {
+    fn from(_e: AllocError) -> Unread {
+        Unread::Memory
+    }
+}
+
+pub impl<T: Drop> From<Refused<T>> for Unread as UnreadFromRefused {
+    fn from(_e: Refused<T>) -> Unread {
+        Unread::Memory
+    }
+}
+
+/// A line that is outside the form.
+pub fn expected(what: &'static str) -> Unread {
+    Unread::Line(Trouble::Expected(what))
+}
+
+/// A line with a word of the form that is not there yet.
+pub fn not_yet(word: &'static str) -> Unread {
+    Unread::Line(Trouble::NotYet(word))
+}
