@@ -33,8 +33,8 @@ hex-low (x ∷ bs) (suc i) h =
 
 -- One byte more: its digits stand behind those of the bytes before it.
 pub hex-more : (text bs : List ℕ) (i high low : ℕ) → hex-of bs ≡ take (2 * i) text → 2 * i + 1 < length text
-             → high < 16 → low < 16 → hex-digit high ≡ getD text (2 * i) 0 → hex-digit low ≡ getD text (2 * i + 1) 0
-             → hex-of (bs ++ (16 * high + low) ∷ []) ≡ take (2 * (i + 1)) text
+    → high < 16 → low < 16 → hex-digit high ≡ getD text (2 * i) 0 → hex-digit low ≡ getD text (2 * i + 1) 0
+    → hex-of (bs ++ (16 * high + low) ∷ []) ≡ take (2 * (i + 1)) text
 hex-more text bs i high low before lt small tiny h l =
     let n = 16 * high + low in
     let a : n / 16 ≡ high = omega arith in
@@ -52,7 +52,7 @@ odd text h bs _ e = h (omega (arith, length-hex bs, ap length e))
 
 -- Nor is one with another character than a digit in it.
 pub no-high : (text : List ℕ) (i c : ℕ) → 2 * i + 1 < length text → c ≡ getD text (2 * i) 0
-            → ((d : ℕ) → d < 16 → hex-digit d ≡ c → ⊥) → None-has hex-of text
+    → ((d : ℕ) → d < 16 → hex-digit d ≡ c → ⊥) → None-has hex-of text
 no-high text i c lt is no-digit bs all e =
     let small : i < length bs = omega (arith, length-hex bs, ap length e) in
     let byte : getD bs i 0 < 256 = all-getD (λ b. b < 256) bs i 0 small all in
@@ -61,7 +61,7 @@ no-high text i c lt is no-digit bs all e =
     no-digit (getD bs i 0 / 16) (omega arith) (cc)
 
 pub no-low : (text : List ℕ) (i c : ℕ) → 2 * i + 1 < length text → c ≡ getD text (2 * i + 1) 0
-           → ((d : ℕ) → d < 16 → hex-digit d ≡ c → ⊥) → None-has hex-of text
+    → ((d : ℕ) → d < 16 → hex-digit d ≡ c → ⊥) → None-has hex-of text
 no-low text i c lt is no-digit bs all e =
     let small : i < length bs = omega (arith, length-hex bs, ap length e) in
     let at = hex-low bs i small in

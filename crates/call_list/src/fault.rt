@@ -1,3 +1,9 @@
+use crate::form::Field;
+use crate::form::FieldDisplay;
+use crate::form::Form;
+use crate::form::FormDisplay;
+use crate::form::Later;
+use crate::form::LaterDisplay;
 use std::alloc::AllocError;
 use std::alloc::Refused;
 use std::fmt;
@@ -5,10 +11,12 @@ use std::fmt;
 /// What is wrong with a line of a call list.
 #[derive(Clone, Copy)]
 pub enum Trouble {
-    /// It is outside the form: this was expected.
-    Expected(&'static str),
-    /// It has this word of the form, which is not there yet.
-    NotYet(&'static str),
+    /// The line is outside the form: this was expected of it.
+    Line(Form),
+    /// One of its words is outside the form: this was expected of that.
+    Word(Field),
+    /// It has a word of the format that is not there yet.
+    NotYet(Later),
 }
 
 /// A line of a call list that is outside the form, or not there yet.
@@ -20,7 +28,7 @@ pub struct Fault {
 }
 
 /// Why a call list is not read.
-#[derive(Drop)]
+#[derive(Clone, Copy)]
 pub enum Failure {
     /// There is no memory.
     Memory,
@@ -31,18 +39,19 @@ pub enum Failure {
 }
 
 /// Why a line is not read.
-#[derive(Drop)]
+#[derive(Clone, Copy)]
 pub enum Unread {
     Memory,
     SetUp,
-    Line(Trouble),
+    Trouble(Trouble),
 }
 
 pub impl fmt::Display for Fault as FaultDisplay {
     fn fmt<W: fmt::Write>(&self, f: &mut fmt::Formatter<W>) -> fmt::Result {
         let line = self.line;
         match self.trouble {
-            Trouble::Expected(what) => write!(f, "line {line}: expected {what}"),
+            Trouble::Line(form) => write!(f, "line {line}: expected {form}"),
+            Trouble::Word(field) => write!(f, "line {line}: expected {field}"),
             Trouble::NotYet(word) => write!(f, "line {line}: {word} is not there yet"),
         }
     }
@@ -72,12 +81,17 @@ pub impl<T: Drop> From<Refused<T>> for Unread as UnreadFromRefused {
     }
 }
 
-/// A line that is outside the form.
-pub fn expected(what: &'static str) -> Unread {
-    Unread::Line(Trouble::Expected(what))
+/// A line that is outside this form.
+pub fn no_line(form: Form) -> Unread {
+    Unread::Trouble(Trouble::Line(form))
 }
 
-/// A line with a word of the form that is not there yet.
-pub fn not_yet(word: &'static str) -> Unread {
-    Unread::Line(Trouble::NotYet(word))
+/// A word that is outside this form.
+pub fn no_word(field: Field) -> Unread {
+    Unread::Trouble(Trouble::Word(field))
+}
+
+/// A word that is not there yet.
+pub fn not_yet(word: Later) -> Unread {
+    Unread::Trouble(Trouble::NotYet(word))
 }

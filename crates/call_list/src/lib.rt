@@ -1,3 +1,9 @@
 //! Lists of calls as text: a set-up and its calls are read, and answers are written.
-mod fault;
+mod address;
+mod call;
+pub mod fault;
+mod fields;
+pub mod form;
+pub mod list;
+pub mod set_up;
 mod words;

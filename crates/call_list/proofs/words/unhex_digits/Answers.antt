@@ -22,7 +22,7 @@ loop-i-again c =
     let high = c .in-Some .ensures tt in
     let low = c .in-Some-nibble .ensures tt in
     let more = hex-more (c .args .digits .now) (vec-items (c .loop-i .bytes)) (c .loop-i .i) (c .in-Some .high) (c .in-Some-nibble .low)
-               (c .loop-i .inv) (omega arith) (high .0) (low .0) (high .1) (low .1) in
+    (c .loop-i .inv) (omega arith) (high .0) (low .0) (high .1) (low .1) in
     rw (c .in-Continue-push .ensures tt .items) more
 
 pub returns : need.returns

@@ -1,0 +1,156 @@
+use crate::address::local;
+use crate::address::remote;
+use crate::fault::Unread;
+use crate::fault::UnreadFromAlloc;
+use crate::fault::no_line;
+use crate::fault::no_word;
+use crate::fault::not_yet;
+use crate::fields::bit;
+use crate::fields::bytes;
+use crate::fields::fixed;
+use crate::fields::identifier;
+use crate::fields::number;
+use crate::fields::number_32;
+use crate::form::Field;
+use crate::form::Form;
+use crate::form::Later;
+use crate::list::Line;
+use crate::words::fill_tail;
+use calls::call::Arrival;
+use calls::call::Brought;
+use calls::call::Call;
+use records::address::FourTuple;
+use records::packet::Datagram;
+use records::packet::Kind;
+use std::alloc::Global;
+
+/// The longest datagram whose bytes are taken.
+const LONGEST: u64 = 65535;
+
+/// An ECN mark, which may be wrong: one that is too wide for its field stays wrong.
+fn ecn_mark(word: &str) -> Result<Option<u8>, Unread> {
+    if word == "-" {
+        return Ok(None);
+    }
+    Ok(Some(number(word, Field::Ecn)?.min(255) as u8))
+}
+
+/// The kind of a datagram's first packet.
+fn kind(word: &str) -> Result<Kind, Unread> {
+    match word {
+        "initial" => Ok(Kind::Initial),
+        "handshake" => Ok(Kind::Handshake),
+        "zerortt" => Ok(Kind::ZeroRtt),
+        "short" => Ok(Kind::Short),
+        "retry" => Ok(Kind::Retry),
+        "versionnegotiate" => Ok(Kind::VersionNegotiate),
+        _ => Err(no_word(Field::Kind)),
+    }
+}
+
+/// The datagram of a `handle` line, or `None` where an identifier has more than 20 bytes.
+fn datagram(heap: Global, words: &[&str]) -> Result<Option<Datagram>, Unread> {
+    let [
+        time,
+        peer,
+        here,
+        ecn,
+        _,
+        first,
+        first_kind,
+        dst,
+        src,
+        version,
+        mark,
+        _,
+        _,
+    ] = words
+    else {
+        return Err(no_line(Form::Handle));
+    };
+    let time = number(time, Field::Time)?;
+    let addresses = FourTuple {
+        remote: remote(heap, peer)?,
+        local_ip: local(heap, here)?,
+    };
+    let ecn = ecn_mark(ecn)?;
+    let first_len = number(first, Field::First)? as usize;
+    let kind = kind(first_kind)?;
+    let dst = identifier(heap, dst, Field::Destination)?;
+    let src = identifier(heap, src, Field::Origin)?;
+    let version = number_32(version, Field::Version)?;
+    let token_mark = bit(mark, Field::Mark)?;
+    let (Some(dst_cid), Some(src_cid)) = (dst, src) else {
+        return Ok(None);
+    };
+    Ok(Some(Datagram {
+        time,
+        addresses,
+        ecn,
+        first_len,
+        kind,
+        dst_cid,
+        src_cid,
+        version,
+        token_mark,
+    }))
+}
+
+/// A `handle` line: the datagram's bytes go behind the others.
+fn handle(heap: Global, words: &[&str], small: bool, all: &mut Vec<u8>) -> Result<Line, Unread> {
+    let [_, _, _, _, n, _, _, _, _, _, _, fill, tail] = words else {
+        return Err(no_line(Form::Handle));
+    };
+    let n = number(n, Field::Length)?;
+    let datagram = datagram(heap, words)?;
+    let [fill] = fixed::<1>(heap, fill, Field::Fill)?;
+    let tail = bytes(heap, tail, Field::Tail)?;
+    if n > LONGEST {
+        return Ok(Line::Malformed);
+    }
+    let len = n as usize;
+    if tail.len() > len {
+        return Err(no_word(Field::Tail));
+    }
+    let Some(datagram) = datagram else {
+        return Ok(Line::Malformed);
+    };
+    let at = all.len();
+    fill_tail(all, len, fill, tail.as_slice())?;
+    Ok(Line::Call(Call::Handle(Arrival {
+        datagram,
+        at,
+        len,
+        small,
+    })))
+}
+
+/// The attempt that a call brings to the endpoint with this number.
+fn brought(word: &str, endpoint: u32) -> Result<Brought, Unread> {
+    if word == "foreign" {
+        return Ok(Brought::Foreign(endpoint.wrapping_add(1), 0));
+    }
+    Ok(Brought::Opened(number(word, Field::Attempt)? as usize))
+}
+
+/// A call's line, as its words, for the endpoint with this number.
+pub fn call(
+    heap: Global,
+    words: &[&str],
+    endpoint: u32,
+    all: &mut Vec<u8>,
+) -> Result<Line, Unread> {
+    match words {
+        ["handle", front @ .., "small"] if front.len() == 13 => handle(heap, front, true, all),
+        ["handle", rest @ ..] => handle(heap, rest, false, all),
+        ["ignore", k] => Ok(Line::Call(Call::Ignore(brought(k, endpoint)?))),
+        ["ignore", ..] => Err(no_line(Form::Ignore)),
+        ["accept", ..] => Err(not_yet(Later::Accept)),
+        ["refuse", ..] => Err(not_yet(Later::Refuse)),
+        ["need", ..] => Err(not_yet(Later::Need)),
+        ["retire", ..] => Err(not_yet(Later::Retire)),
+        ["reset-token", ..] => Err(not_yet(Later::ResetToken)),
+        ["drained", ..] => Err(not_yet(Later::Drained)),
+        _ => Err(no_line(Form::Call)),
+    }
+}

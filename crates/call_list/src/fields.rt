@@ -1,0 +1,71 @@
+use crate::fault::Unread;
+use crate::fault::UnreadFromAlloc;
+use crate::fault::no_word;
+use crate::form::Field;
+use crate::words::decimal;
+use crate::words::unhex;
+use records::shared::ConnectionId;
+use std::alloc::AllocError;
+use std::alloc::Global;
+
+/// The words of a text that are parted by one character each.
+pub fn parts<'a>(heap: Global, text: &'a str, by: char) -> Result<Vec<&'a str>, AllocError> {
+    text.split(by).collect(heap)
+}
+
+/// A number of 64 bits.
+pub fn number(word: &str, field: Field) -> Result<u64, Unread> {
+    decimal(word).ok_or(no_word(field))
+}
+
+/// A number of 32 bits.
+pub fn number_32(word: &str, field: Field) -> Result<u32, Unread> {
+    match u32::try_from(number(word, field)?) {
+        Ok(n) => Ok(n),
+        Err(_) => Err(no_word(field)),
+    }
+}
+
+/// A number of 16 bits.
+pub fn number_16(word: &str, field: Field) -> Result<u16, Unread> {
+    match u16::try_from(number(word, field)?) {
+        Ok(n) => Ok(n),
+        Err(_) => Err(no_word(field)),
+    }
+}
+
+/// A word that is 0 or 1.
+pub fn bit(word: &str, field: Field) -> Result<bool, Unread> {
+    match word {
+        "0" => Ok(false),
+        "1" => Ok(true),
+        _ => Err(no_word(field)),
+    }
+}
+
+/// A word that is `yes` or `no`.
+pub fn yes_no(word: &str, field: Field) -> Result<bool, Unread> {
+    match word {
+        "yes" => Ok(true),
+        "no" => Ok(false),
+        _ => Err(no_word(field)),
+    }
+}
+
+/// Bytes, as hexadecimal digits or `-`.
+pub fn bytes(heap: Global, word: &str, field: Field) -> Result<Vec<u8>, Unread> {
+    unhex(heap, word)?.ok_or(no_word(field))
+}
+
+/// Just N bytes.
+pub fn fixed<const N: usize>(heap: Global, word: &str, field: Field) -> Result<[u8; N], Unread> {
+    match <[u8; N]>::try_from(bytes(heap, word, field)?.as_slice()) {
+        Ok(array) => Ok(array),
+        Err(_) => Err(no_word(field)),
+    }
+}
+
+/// An identifier, or `None` for one of more than 20 bytes.
+pub fn identifier(heap: Global, word: &str, field: Field) -> Result<Option<ConnectionId>, Unread> {
+    Ok(ConnectionId::new(bytes(heap, word, field)?.as_slice()))
+}
