@@ -22,6 +22,7 @@ use calls::call::Call;
 use records::address::FourTuple;
 use records::packet::Datagram;
 use records::packet::Kind;
+use records::shared::ConnectionId;
 use std::alloc::Global;
 
 /// The longest datagram whose bytes are taken.
@@ -36,7 +37,7 @@ fn ecn_mark(word: &str) -> Result<Option<u8>, Unread> {
 }
 
 /// The kind of a datagram's first packet.
-fn kind(word: &str) -> Result<Kind, Unread> {
+fn kind_of(word: &str) -> Result<Kind, Unread> {
     match word {
         "initial" => Ok(Kind::Initial),
         "handshake" => Ok(Kind::Handshake),
@@ -48,24 +49,37 @@ fn kind(word: &str) -> Result<Kind, Unread> {
     }
 }
 
+/// What a `handle` line says of its datagram's first packet.
+#[derive(Clone, Copy)]
+struct Packet {
+    kind: Kind,
+    /// `None` for an identifier of more than 20 bytes.
+    dst: Option<ConnectionId>,
+    src: Option<ConnectionId>,
+    version: u32,
+    token_mark: bool,
+}
+
+/// The words KIND DST SRC VERSION MARK.
+fn first_packet(heap: Global, words: &[&str]) -> Result<Packet, Unread> {
+    let [kind, dst, src, version, mark] = words else {
+        return Err(no_line(Form::Handle));
+    };
+    Ok(Packet {
+        kind: kind_of(kind)?,
+        dst: identifier(heap, dst, Field::Destination)?,
+        src: identifier(heap, src, Field::Origin)?,
+        version: number_32(version, Field::Version)?,
+        token_mark: bit(mark, Field::Mark)?,
+    })
+}
+
 /// The datagram of a `handle` line, or `None` where an identifier has more than 20 bytes.
 fn datagram(heap: Global, words: &[&str]) -> Result<Option<Datagram>, Unread> {
-    let [
-        time,
-        peer,
-        here,
-        ecn,
-        _,
-        first,
-        first_kind,
-        dst,
-        src,
-        version,
-        mark,
-        _,
-        _,
-    ] = words
-    else {
+    if words.len() != 14 {
+        return Err(no_line(Form::Handle));
+    }
+    let [_, time, peer, here, ecn, _, first, ..] = words else {
         return Err(no_line(Form::Handle));
     };
     let time = number(time, Field::Time)?;
@@ -75,12 +89,11 @@ fn datagram(heap: Global, words: &[&str]) -> Result<Option<Datagram>, Unread> {
     };
     let ecn = ecn_mark(ecn)?;
     let first_len = number(first, Field::First)? as usize;
-    let kind = kind(first_kind)?;
-    let dst = identifier(heap, dst, Field::Destination)?;
-    let src = identifier(heap, src, Field::Origin)?;
-    let version = number_32(version, Field::Version)?;
-    let token_mark = bit(mark, Field::Mark)?;
-    let (Some(dst_cid), Some(src_cid)) = (dst, src) else {
+    let packet = first_packet(heap, &words[7..12])?;
+    let Some(dst_cid) = packet.dst else {
+        return Ok(None);
+    };
+    let Some(src_cid) = packet.src else {
         return Ok(None);
     };
     Ok(Some(Datagram {
@@ -88,17 +101,17 @@ fn datagram(heap: Global, words: &[&str]) -> Result<Option<Datagram>, Unread> {
         addresses,
         ecn,
         first_len,
-        kind,
+        kind: packet.kind,
         dst_cid,
         src_cid,
-        version,
-        token_mark,
+        version: packet.version,
+        token_mark: packet.token_mark,
     }))
 }
 
 /// A `handle` line: the datagram's bytes go behind the others.
 fn handle(heap: Global, words: &[&str], small: bool, all: &mut Vec<u8>) -> Result<Line, Unread> {
-    let [_, _, _, _, n, _, _, _, _, _, _, fill, tail] = words else {
+    let [_, _, _, _, _, n, _, _, _, _, _, _, fill, tail] = words else {
         return Err(no_line(Form::Handle));
     };
     let n = number(n, Field::Length)?;
@@ -141,8 +154,8 @@ pub fn call(
     all: &mut Vec<u8>,
 ) -> Result<Line, Unread> {
     match words {
-        ["handle", front @ .., "small"] if front.len() == 13 => handle(heap, front, true, all),
-        ["handle", rest @ ..] => handle(heap, rest, false, all),
+        ["handle", .., "small"] if words.len() == 15 => handle(heap, &words[0..14], true, all),
+        ["handle", ..] => handle(heap, words, false, all),
         ["ignore", k] => Ok(Line::Call(Call::Ignore(brought(k, endpoint)?))),
         ["ignore", ..] => Err(no_line(Form::Ignore)),
         ["accept", ..] => Err(not_yet(Later::Accept)),

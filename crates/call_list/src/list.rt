@@ -123,11 +123,13 @@ pub fn parse(heap: Global, text: &str) -> Result<Parsed, Failure> {
             line.number,
         ) {
             Ok(read) => calls.push(read)?,
-            Err(Failure::Line(fault)) => {
+            Err(failure) => {
+                let Failure::Line(fault) = failure else {
+                    return Err(failure);
+                };
                 end = Some(fault);
                 break;
             }
-            Err(failure) => return Err(failure),
         }
     }
     Ok(Parsed {
