@@ -26,6 +26,10 @@ bytes-word (b ∷ bs) = hex-of (b ∷ bs)
 abbrev pub None-has : (List ℕ → List ℕ) → List ℕ → Type 0
 None-has text word = (bs : List ℕ) → All (λ b. b < 256) bs → text bs ≡ word → ⊥
 
+-- the text of more than 20 bytes, which no identifier has
+abbrev pub Long : List ℕ → Type 0
+Long word = (bs : List ℕ) × (20 < length bs) × (bytes-word bs ≡ word)
+
 -- the number that digits write, after the number so far
 abbrev pub read-on : ℕ → List ℕ → ℕ
 read-on n [] = n

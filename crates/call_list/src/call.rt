@@ -24,6 +24,12 @@ use records::packet::Datagram;
 use records::packet::Kind;
 use records::shared::ConnectionId;
 use std::alloc::Global;
+ghost use mathlib.Core.Path.{_≡_};
+ghost use Prim.Native.Nat.{_≤_};
+ghost use Rattle.std.specs.Of.Vec.{vec-len};
+ghost use Rattle.std.specs.Vec.{made};
+ghost use Rattle.call_list.specs.declared.list.Line.the-variants.{Malformed};
+ghost use Rattle.call_list.specs.Lines.{Within};
 
 /// The longest datagram whose bytes are taken.
 const LONGEST: u64 = 65535;
@@ -109,8 +115,21 @@ fn datagram(heap: Global, words: &[&str]) -> Result<Option<Datagram>, Unread> {
     }))
 }
 
+/// A `handle` line without bytes: N is no datagram's length, or TAIL is longer than N.
+fn no_bytes(n: u64) -> Result<Line, Unread>
+    ensures { λ r. ⌜ made r (λ l. l ≡ Malformed) ⌝ }
+{
+    match n {
+        1..=1500 => Err(no_word(Field::Tail)),
+        _ => Ok(Line::Malformed),
+    }
+}
+
 /// A `handle` line: the datagram's bytes go behind the others.
-fn handle(heap: Global, words: &[&str], small: bool, all: &mut Vec<u8>) -> Result<Line, Unread> {
+fn handle(heap: Global, words: &[&str], small: bool, all: &mut Vec<u8>) -> Result<Line, Unread>
+    ensures within { λ r. ⌜ made r (Within (vec-len (now (all .exit)))) ⌝ }
+    ensures grows { λ _. ⌜ vec-len (now (all .entry)) ≤ vec-len (now (all .exit)) ⌝ }
+{
     let [_, _, _, _, _, n, _, _, _, _, _, _, fill, tail] = words else {
         return Err(no_line(Form::Handle));
     };
@@ -118,17 +137,14 @@ fn handle(heap: Global, words: &[&str], small: bool, all: &mut Vec<u8>) -> Resul
     let datagram = datagram(heap, words)?;
     let [fill] = fixed::<1>(heap, fill, Field::Fill)?;
     let tail = bytes(heap, tail, Field::Tail)?;
-    if n > LONGEST {
-        return Ok(Line::Malformed);
-    }
-    let len = n as usize;
-    if tail.len() > len {
-        return Err(no_word(Field::Tail));
-    }
     let Some(datagram) = datagram else {
         return Ok(Line::Malformed);
     };
+    if n > LONGEST || tail.len() as u64 > n {
+        return no_bytes(n);
+    }
     let at = all.len();
+    let len = n as usize;
     fill_tail(all, len, fill, tail.as_slice())?;
     Ok(Line::Call(Call::Handle(Arrival {
         datagram,
@@ -147,12 +163,10 @@ fn brought(word: &str, endpoint: u32) -> Result<Brought, Unread> {
 }
 
 /// A call's line, as its words, for the endpoint with this number.
-pub fn call(
-    heap: Global,
-    words: &[&str],
-    endpoint: u32,
-    all: &mut Vec<u8>,
-) -> Result<Line, Unread> {
+pub fn call(heap: Global, words: &[&str], endpoint: u32, all: &mut Vec<u8>) -> Result<Line, Unread>
+    ensures within { λ r. ⌜ made r (Within (vec-len (now (all .exit)))) ⌝ }
+    ensures grows { λ _. ⌜ vec-len (now (all .entry)) ≤ vec-len (now (all .exit)) ⌝ }
+{
     match words {
         ["handle", .., "small"] if words.len() == 15 => handle(heap, &words[0..14], true, all),
         ["handle", ..] => handle(heap, words, false, all),

@@ -17,6 +17,10 @@ use crate::set_up::source;
 use calls::call::Call;
 use std::alloc::AllocError;
 use std::alloc::Global;
+ghost use Rattle.std.specs.Of.Vec.{vec-items, vec-len};
+ghost use Rattle.std.specs.Vec.{made};
+ghost use Rattle.std.specs.shelf.Lists.{All};
+ghost use Rattle.call_list.specs.Lines.{Within};
 
 /// A call's line.
 #[derive(Clone, Copy)]
@@ -59,13 +63,20 @@ fn speaking<'a>(heap: Global, text: &'a str) -> Result<Vec<Numbered<'a>>, AllocE
     Ok(lines)
 }
 
-/// What a line was read as, or its fault with its number.
+/// The fault of the line of this number, unless it is the list that is not read.
+fn fault_at(unread: Unread, line: usize) -> Result<Fault, Failure> {
+    match unread {
+        Unread::Memory => Err(Failure::Memory),
+        Unread::SetUp => Err(Failure::SetUp),
+        Unread::Trouble(trouble) => Ok(Fault { line, trouble }),
+    }
+}
+
+/// What a line of the set-up was read as, or why the list is not read.
 fn at_line<T>(read: Result<T, Unread>, line: usize) -> Result<T, Failure> {
     match read {
         Ok(x) => Ok(x),
-        Err(Unread::Memory) => Err(Failure::Memory),
-        Err(Unread::SetUp) => Err(Failure::SetUp),
-        Err(Unread::Trouble(trouble)) => Err(Failure::Line(Fault { line, trouble })),
+        Err(unread) => Err(Failure::Line(fault_at(unread, line)?)),
     }
 }
 
@@ -109,29 +120,38 @@ fn set_up(heap: Global, lines: &[Numbered]) -> Result<SetUp, Failure> {
     })
 }
 
-/// Reads a call list: its set-up, and its calls up to the first line with a fault.
-pub fn parse(heap: Global, text: &str) -> Result<Parsed, Failure> {
-    let lines = speaking(heap, text)?;
-    let set_up = set_up(heap, lines.as_slice())?;
+/// The calls of these lines up to the first with a fault, the bytes of their datagrams, and the fault.
+fn read_calls(
+    heap: Global,
+    lines: &[Numbered],
+    endpoint: u32,
+) -> Result<(Vec<Line>, Vec<u8>, Option<Fault>), Failure>
+    ensures { λ r. ⌜ made r (λ p. All (Within (vec-len (p .1))) (vec-items (p .0))) ⌝ }
+{
     let mut calls = Vec::new(heap);
     let mut bytes = Vec::new(heap);
-    let mut end = None;
-    for line in lines.iter().skip(6) {
+    for line in lines {
         let words = parts(heap, line.text, ' ')?;
-        match at_line(
-            call(heap, words.as_slice(), set_up.number, &mut bytes),
-            line.number,
-        ) {
+        match call(heap, words.as_slice(), endpoint, &mut bytes) {
             Ok(read) => calls.push(read)?,
-            Err(failure) => {
-                let Failure::Line(fault) = failure else {
-                    return Err(failure);
-                };
-                end = Some(fault);
-                break;
+            Err(unread) => {
+                let fault = fault_at(unread, line.number)?;
+                return Ok((calls, bytes, Some(fault)));
             }
         }
     }
+    Ok((calls, bytes, None))
+}
+
+/// Reads a call list: its set-up, and its calls up to the first line with a fault.
+pub fn parse(heap: Global, text: &str) -> Result<Parsed, Failure>
+    ensures { λ r. ⌜ made r (λ p. All (Within (vec-len (p .bytes))) (vec-items (p .calls))) ⌝ }
+{
+    let lines = speaking(heap, text)?;
+    let lines = lines.as_slice();
+    let (front, rest) = lines.split_at(lines.len().min(6));
+    let set_up = set_up(heap, front)?;
+    let (calls, bytes, end) = read_calls(heap, rest, set_up.number)?;
     Ok(Parsed {
         set_up,
         calls,

@@ -2,9 +2,10 @@ use std::alloc::AllocError;
 use std::alloc::Global;
 ghost use mathlib.Core.Path.{_≡_};
 ghost use mathlib.Core.List.{_++_};
-ghost use Prim.Native.Nat.{ℕ, _<_};
+ghost use Prim.Native.Nat.{ℕ, _+_, _-_, _<_, _≤_};
+ghost use lib.ListN.{length};
 ghost use Rattle.std.specs.Numbers.{Checked};
-ghost use Rattle.std.specs.Of.Vec.{vec-items};
+ghost use Rattle.std.specs.Of.Vec.{vec-items, vec-len};
 ghost use Rattle.std.specs.Options.{Cases as BySome};
 ghost use Rattle.std.specs.Vec.{made};
 ghost use Rattle.call_list.specs.Words.{hex-digit, hex-of, bytes-word, None-has, read-on, Decimal, filled};
@@ -72,10 +73,13 @@ pub fn decimal(word: &str) -> Option<u64>
 
 /// Appends a datagram of `n` bytes: `fill` as often as it takes, then `tail`.
 pub fn fill_tail(bytes: &mut Vec<u8>, n: usize, fill: u8, tail: &[u8]) -> Result<(), AllocError>
-    ensures { λ r. ⌜ made r (λ _. vec-items (now (bytes .exit)) ≡ vec-items (now (bytes .entry)) ++ filled n fill (now (tail .entry))) ⌝ }
+    ensures grows { λ _. ⌜ vec-len (now (bytes .entry)) ≤ vec-len (now (bytes .exit)) ⌝ }
+    ensures long { λ r. ⌜ made r (λ _. vec-len (now (bytes .exit)) ≡ vec-len (now (bytes .entry)) + (n - length (now (tail .entry))) + length (now (tail .entry))) ⌝ }
+    ensures filled { λ r. ⌜ made r (λ _. vec-items (now (bytes .exit)) ≡ vec-items (now (bytes .entry)) ++ filled n fill (now (tail .entry))) ⌝ }
 {
     for _placed in 0..n.saturating_sub(tail.len()) {
         bytes.push(fill)?;
     }
-    bytes.extend_from_slice(tail)
+    bytes.extend_from_slice(tail)?;
+    Ok(())
 }
