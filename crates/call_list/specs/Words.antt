@@ -1,9 +1,10 @@
 -- What the words of a call list stand for.
-use mathlib.Core.Bool.{Bool, true, cond}
+use mathlib.Core.Bool.{Bool, true, cond, _&&_, _||_}
 use mathlib.Core.List.{List, [], _∷_, _++_}
 use mathlib.Core.Path.{_≡_}
 use Prim.Native.Nat.{ℕ, _+_, _-_, _*_, _/_, _%_, _^_, _<_}
-use lib.Dec.{ltb}
+use lib.Chars.{codes}
+use lib.Dec.{leb, ltb}
 use lib.ListN.{length, replicate}
 use Rattle.std.specs.shelf.Lists.{All}
 use Rattle.std.specs.shelf.Text.{allDigits}
@@ -42,3 +43,14 @@ Decimal word = (allDigits word ≡ true) × (0 < length word) × (read-on 0 word
 -- a datagram of n bytes: the byte fill as often as it takes, then the tail
 abbrev pub filled : ℕ → ℕ → List ℕ → List ℕ
 filled n fill tail = replicate (n - length tail) fill ++ tail
+
+-- the causes of a dropped datagram, and those that spend an attempt
+abbrev pub drops : ℕ → Bool
+drops n = (leb 8 n && leb n 16) || (leb 20 n && leb n 22)
+
+abbrev pub fails : ℕ → Bool
+fails n = (leb 17 n && leb n 19) || (leb 23 n && leb n 25)
+
+-- what is said of a cause
+abbrev pub cause-word : ℕ → List ℕ
+cause-word n = cond (drops n) (codes "dropped") (cond (fails n) (codes "failed") (codes "refused"))

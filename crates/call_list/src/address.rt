@@ -1,11 +1,11 @@
-use crate::fault::Unread;
-use crate::fault::UnreadFromAlloc;
-use crate::fault::no_word;
 use crate::fields::fixed;
 use crate::fields::number_16;
 use crate::fields::number_32;
 use crate::fields::parts;
 use crate::form::Field;
+use crate::unread::Unread;
+use crate::unread::UnreadFromAlloc;
+use crate::unread::no_word;
 use records::address::IpAddr;
 use records::address::Ipv4Addr;
 use records::address::Ipv6Addr;

@@ -15,9 +15,13 @@ use records::address::FourTuple;
 use records::cause::Cause;
 use std::alloc::AllocError;
 use std::alloc::Global;
+ghost use mathlib.Core.Path.{_≡_};
+ghost use Rattle.call_list.specs.Words.{cause-word};
 
 /// The word for a cause of this number: the host's mistakes are refused, datagrams dropped, and spent attempts failed.
-fn word_of(cause: u8) -> &'static str {
+fn word_of(cause: u8) -> &'static str
+    ensures { λ r. ⌜ now r ≡ cause-word cause ⌝ }
+{
     match cause {
         8..=16 | 20..=22 => "dropped",
         17..=19 | 23..=25 => "failed",

@@ -35,15 +35,7 @@ pub enum Failure {
     /// The set-up has an identifier of more than 20 bytes: it is refused by cause 2.
     SetUp,
     /// A line of the set-up has a fault.
-    Line(Fault),
-}
-
-/// Why a line is not read.
-#[derive(Clone, Copy)]
-pub enum Unread {
-    Memory,
-    SetUp,
-    Trouble(Trouble),
+    Fault(Fault),
 }
 
 pub impl fmt::Display for Fault as FaultDisplay {
@@ -67,31 +59,4 @@ pub impl<T: Drop> From<Refused<T>> for Failure as FailureFromRefused {
     fn from(_e: Refused<T>) -> Failure {
         Failure::Memory
     }
-}
-
-pub impl From<AllocError> for Unread as UnreadFromAlloc {
-    fn from(_e: AllocError) -> Unread {
-        Unread::Memory
-    }
-}
-
-pub impl<T: Drop> From<Refused<T>> for Unread as UnreadFromRefused {
-    fn from(_e: Refused<T>) -> Unread {
-        Unread::Memory
-    }
-}
-
-/// A line that is outside this form.
-pub fn no_line(form: Form) -> Unread {
-    Unread::Trouble(Trouble::Line(form))
-}
-
-/// A word that is outside this form.
-pub fn no_word(field: Field) -> Unread {
-    Unread::Trouble(Trouble::Word(field))
-}
-
-/// A word that is not there yet.
-pub fn not_yet(word: Later) -> Unread {
-    Unread::Trouble(Trouble::NotYet(word))
 }

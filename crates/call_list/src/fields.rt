@@ -1,7 +1,7 @@
-use crate::fault::Unread;
-use crate::fault::UnreadFromAlloc;
-use crate::fault::no_word;
 use crate::form::Field;
+use crate::unread::Unread;
+use crate::unread::UnreadFromAlloc;
+use crate::unread::no_word;
 use crate::words::decimal;
 use crate::words::unhex;
 use records::shared::ConnectionId;

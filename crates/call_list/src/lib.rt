@@ -7,5 +7,7 @@ mod fields;
 pub mod form;
 pub mod list;
 pub mod set_up;
+mod set_up_lines;
 mod shown;
+mod unread;
 mod words;

@@ -4,16 +4,16 @@ use crate::fault::FailureFromAlloc;
 use crate::fault::FailureFromRefused;
 use crate::fault::Fault;
 use crate::fault::Trouble;
-use crate::fault::Unread;
 use crate::fields::parts;
 use crate::form::Form;
 use crate::set_up::SetUp;
-use crate::set_up::door;
-use crate::set_up::endpoint;
-use crate::set_up::generator;
-use crate::set_up::settings;
-use crate::set_up::signer;
-use crate::set_up::source;
+use crate::set_up_lines::door;
+use crate::set_up_lines::endpoint;
+use crate::set_up_lines::generator;
+use crate::set_up_lines::settings;
+use crate::set_up_lines::signer;
+use crate::set_up_lines::source;
+use crate::unread::Unread;
 use calls::call::Call;
 use std::alloc::AllocError;
 use std::alloc::Global;
@@ -76,7 +76,7 @@ fn fault_at(unread: Unread, line: usize) -> Result<Fault, Failure> {
 fn at_line<T>(read: Result<T, Unread>, line: usize) -> Result<T, Failure> {
     match read {
         Ok(x) => Ok(x),
-        Err(unread) => Err(Failure::Line(fault_at(unread, line)?)),
+        Err(unread) => Err(Failure::Fault(fault_at(unread, line)?)),
     }
 }
 
@@ -86,7 +86,7 @@ fn cut_off(lines: &[Numbered]) -> Failure {
         Some(last) => last.number.saturating_add(1),
         None => 1,
     };
-    Failure::Line(Fault {
+    Failure::Fault(Fault {
         line,
         trouble: Trouble::Line(Form::SetUp),
     })
