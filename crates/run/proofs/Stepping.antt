@@ -6,7 +6,7 @@ use mathlib.Core.List.{List}
 use Prim.Native.Nat.{ℕ, zero, suc, _<_, _≤_}
 use native.Mathlib.Omega.{arith}
 use lib.Dec.{eqb, leb}
-use lib.ListN.{length, getD, set}
+use lib.ListN.{length, getD, set, take, drop}
 use Rattle.std.specs.declared.option.Option.{Option}
 use Rattle.std.specs.declared.option.Option.the-variants.{Some, None}
 use Rattle.std.specs.declared.result.Result.{Result}
@@ -15,7 +15,7 @@ use Rattle.std.proofs.shelf.Lists.{getD-set-same, getD-set-other, getD-past, se
 use Rattle.std.proofs.shelf.Tests.{cond-true, cond-false, cond-both, cases-eq, cases-lt, eqb-true, eqb-false, eq-eqb, ne-eqb, and-left, and-right}
 use Rattle.records.specs.declared.packet.Close.{Close}
 use Rattle.records.specs.declared.incoming.Attempt.{Attempt}
-use Rattle.records.specs.Received.{Datagram}
+use Rattle.records.specs.Received.{Datagram, datagram-of}
 use Rattle.supply.specs.Meaning.{Supplied, spent, token-of}
 use Rattle.supply.proofs.Spending.{spent-none}
 use Rattle.model.specs.Records.{Id, Token, Answer, refused, delivered, stored, opened, closing, reset, accepted, failed, ignored, issued, done, written}
@@ -30,7 +30,7 @@ use Rattle.endpoint.specs.declared.handled.Handled.the-variants as handled
 use Rattle.endpoint.specs.declared.handled.HandedBack.{HandedBack}
 use Rattle.endpoint.specs.State.{state-of, config-of, supply-of, Frame}
 use Rattle.endpoint.specs.Answers.{answer-of, Numbered, Answered}
-use Rattle.endpoint.specs.Ignoring.{Ignored, ignored-of}
+use Rattle.endpoint.specs.Ignoring.{Ignored, ignored-of, Back}
 use Rattle.endpoint.proofs.Answering.{same-frame}
 use Rattle.calls.specs.declared.call.Arrival.{Arrival}
 use Rattle.calls.specs.declared.call.Brought as code
@@ -91,31 +91,49 @@ holds-spent number p k slots w H j =
     (λ t. ap (λ i. getD (set p k None) i None) (eqb-true j k t) ∙ getD-set-same p k None None w)
     (λ t. getD-set-other p k j None None (eqb-false j k t) ∙ H j)
 
--- what is taken leaves no more than was there
-pub still-taken : (p : List (Option Attempt)) (k : ℕ) → Still-empty p (set p k None)
-still-taken p k j e =
-    elim (cases-eq j k) [
-      inl q ↦ elim (cases-lt k (length p)) [
+-- an empty place stays empty where nothing changes
+pub still-same : {p p′ : List (Option Attempt)} → p′ ≡ p → Still-empty p p′
+still-same same k e = ap (λ q. getD q k None) same ∙ e
+
+-- and where an attempt is taken
+pub still-taken : (p : List (Option Attempt)) (k : ℕ) {p′ : List (Option Attempt)} → p′ ≡ set p k None → Still-empty p p′
+still-taken p k took j e =
+    ap (λ q. getD q j None) took
+    ∙ elim (cases-eq j k) as (λ _. getD (set p k None) j None ≡ None) [
+      inl q ↦ elim (cases-lt k (length p)) as (λ _. getD (set p k None) j None ≡ None) [
         inl h ↦ ap (λ n. getD (set p k None) n None) q ∙ getD-set-same p k None None h
       | inr h ↦ getD-past (set p k None) j None (simp length-set (omega (arith, q, h)))
       ]
     | inr q ↦ getD-set-other p k j None None q ∙ e
     ]
 
+-- and where it is put back
+pub still-put : (p : List (Option Attempt)) (k : ℕ) (b : Attempt) {a : Attempt} {p′ p″ : List (Option Attempt)} → p′ ≡ set p k None → Some a ≡ getD p k None → p″ ≡ set p′ k (Some b) → Still-empty p p″
+still-put p k b took there put j e =
+    ap (λ q. getD q j None) (put ∙ ap (λ q. set q k (Some b)) took ∙ set-set p k None (Some b))
+    ∙ elim (cases-eq j k) as (λ _. getD (set p k (Some b)) j None ≡ None) [
+      inl q ↦ let z : _≡_ {A = ℕ} 0 1 = cc in absurd (omega arith)
+    | inr q ↦ getD-set-other p k j (Some b) None q ∙ e
+    ]
+
 -- what is put back is where it was
-pub put-back : (p : List (Option Attempt)) (k : ℕ) (a b : Attempt) → Some a ≡ getD p k None → b ≡ a → set (set p k None) k (Some b) ≡ p
-put-back p k a b is same = set-set p k None (Some b) ∙ ap (set p k) (ap (λ x. Some x) same ∙ is) ∙ set-getD p k None
+put-back : (p : List (Option Attempt)) (k : ℕ) (b : Attempt) {a : Attempt} {p′ p″ : List (Option Attempt)} → p′ ≡ set p k None → Some a ≡ getD p k None → p″ ≡ set p′ k (Some b) → b ≡ a → p″ ≡ p
+put-back p k b took there put same =
+    put ∙ ap (λ q. set q k (Some b)) took ∙ set-set p k None (Some b) ∙ ap (set p k) (ap (λ x. Some x) same ∙ there) ∙ set-getD p k None
 
 -- ## `handle`
 
 -- a new attempt at i changes no place past i
-pub past-pooled : (r : Handled) (p : List (Option Attempt)) (i : ℕ) → Empty-past i p (pooled r p i)
-past-pooled (handled.Refused c) p i k h e = e
-past-pooled (handled.Delivered n) p i k h e = e
-past-pooled (handled.Kept s) p i k h e = e
-past-pooled (handled.Opened a o) p i k h e = getD-set-other p i k (Some a) None (λ q. omega (arith, q)) ∙ e
-past-pooled handled.Closed p i k h e = e
-past-pooled (handled.Reset n) p i k h e = e
+pub past-pooled : (r : Handled) (p : List (Option Attempt)) (i : ℕ) {p′ : List (Option Attempt)} → p′ ≡ pooled r p i → Empty-past i p p′
+past-pooled r p i goes k h e = ap (λ q. getD q k None) goes ∙ stays r
+  where
+    stays : (x : Handled) → getD (pooled x p i) k None ≡ None
+    stays (handled.Refused c) = e
+    stays (handled.Delivered n) = e
+    stays (handled.Kept s) = e
+    stays (handled.Opened a o) = getD-set-other p i k (Some a) None (λ q. omega (arith, q, h)) ∙ e
+    stays handled.Closed = e
+    stays (handled.Reset n) = e
 
 -- the pool after an answer holds the slot that it opens
 holds-pooled : (number : ℕ) (p : List (Option Attempt)) (i : ℕ) (slots : ℕ → Option ℕ) → i < length p → Holds number p slots →
@@ -146,49 +164,56 @@ refusal-noted bytes a d out block k n (handled.Opened b o) e = e
 refusal-noted bytes a d out block k n handled.Closed e = e
 refusal-noted bytes a d out block k n (handled.Reset m) e = let z : _≡_ {A = ℕ} 0 1 = cc in absurd (omega arith)
 
-module _ (e f : Endpoint) (u v : Supplied) (out out′ : List ℕ) (k k′ : Close) (r : Handled) (bytes : List ℕ) (a : Arrival)
-    (p : List (Option Attempt)) (i : ℕ) (w : i < length p) (slots : ℕ → Option ℕ) (H : Holds (e .number) p slots) where
-  -- the pool after it
-  handled-pool : (o : Outcome) (room : ℕ) → Answered e f u v out out′ k k′ (arrived bytes a) r o → Holds (e .number) (pooled r p i) (slots-after slots i (runs.handles (arrived bytes a) room) (o .answer))
-  handled-pool o room A j =
-      let slot : opened-slot (answer-of (arrived bytes a) out′ k′ r) ≡ opened-slot (o .answer) = ap opened-slot (A .answer) ∙ opens-sealed (token-of (u .signer)) (o .answer) in
-      holds-pooled (e .number) p i slots w H r (A .number) (arrived bytes a) out′ k′ j
+-- the datagram's bytes, a part of the list's, are `got`; the plain value is s, and the pool after it p′
+module _ (e f : Endpoint) (u v : Supplied) (out out′ : List ℕ) (k k′ : Close) (r : Handled) (bytes : List ℕ) (a : Arrival) (got : List ℕ)
+    (p p′ : List (Option Attempt)) (i : ℕ) (s : said.Answer) (part : got ≡ take (a .len) (drop (a .at) bytes)) (w : i < length p)
+    (says : s ≡ noted r k′) (goes : p′ ≡ pooled r p i) (slots : ℕ → Option ℕ) (H : Holds (e .number) p slots) where
+  -- the outcome of the datagram with these bytes and with so much room
+  abbrev came-to : List ℕ → ℕ → Outcome
+  came-to bs room = handle (config-of e u) (supply-of u) (state-of e) (datagram-of (a .datagram) bs) room
+
+  abbrev As : List ℕ → Outcome → Type 0
+  As bs o = Answered e f u v out out′ k k′ (datagram-of (a .datagram) bs) r o
+
+  handled-pool : (o : Outcome) → As (take (a .len) (drop (a .at) bytes)) o → Holds (e .number) p′ (slots-after slots i (call-of bytes (Handle a)) (o .answer))
+  handled-pool o A j =
+      let d = arrived bytes a in
+      let slot : opened-slot (answer-of d out′ k′ r) ≡ opened-slot (o .answer) = ap opened-slot (A .answer) ∙ opens-sealed (token-of (u .signer)) (o .answer) in
+      ap (λ q. getD q j None) goes ∙ holds-pooled (e .number) p i slots w H r (A .number) d out′ k′ j
       ∙ ap (in-hand (e .number)) (ap (λ x. put-slot slots i x j) slot ∙ sym (put-as slots (spent-by (o .answer)) i (opened-slot (o .answer)) j))
 
   -- the whole block is lent
-  pub handled-whole : a .small ≡ false → length out ≡ 1500 →
-      Answered e f u v out out′ k k′ (arrived bytes a) r (handle (config-of e u) (supply-of u) (state-of e) (arrived bytes a) (length out)) →
-      Stepped e f u v p (pooled r p i) out out′ bytes i (Handle a) slots (noted r k′) (outcome e u slots (call-of bytes (Handle a)))
+  pub handled-whole : a .small ≡ false → length out ≡ 1500 → As got (came-to got (length out)) →
+      Stepped e f u v p p′ out out′ bytes i (Handle a) slots s (outcome e u slots (call-of bytes (Handle a)))
   unfolding outcome-of
   handled-whole large long A =
-      let o = handle (config-of e u) (supply-of u) (state-of e) (arrived bytes a) (room-of a) in
+      let xs = take (a .len) (drop (a .at) bytes) in
       let room : length out ≡ room-of a = long ∙ sym (cond-false (a .small) 1499 1500 large) in
-      let B : Answered e f u v out out′ k k′ (arrived bytes a) r o = subst (λ n. Answered e f u v out out′ k k′ (arrived bytes a) r (handle (config-of e u) (supply-of u) (state-of e) (arrived bytes a) n)) room A in
+      let B : As xs (came-to xs (room-of a)) = subst (λ n. As xs (came-to xs n)) room (subst (λ bs. As bs (came-to bs (length out))) part A) in
       record {
-        answer = noted-as bytes a out′ k′ r ∙ B .answer;
+        answer = ap (answer-to bytes (Handle a) out′) says ∙ noted-as bytes a out′ k′ r ∙ B .answer;
         state = B .state;
         drawn = B .drawn;
-        pool = handled-pool o (room-of a) B;
+        pool = handled-pool (came-to xs (room-of a)) B;
         block = B .output;
         frame = B .frame;
       }
 
-  -- one byte less than that is lent, and the block is as it was
-  pub handled-short : (block : List ℕ) → a .small ≡ true → length out ≡ 1499 →
-      Answered e f u v out out′ k k′ (arrived bytes a) r (handle (config-of e u) (supply-of u) (state-of e) (arrived bytes a) (length out)) →
-      Stepped e f u v p (pooled r p i) block block bytes i (Handle a) slots (noted r k′) (outcome e u slots (call-of bytes (Handle a)))
+  -- one byte less is lent, and the block is as it was
+  pub handled-short : (block : List ℕ) → a .small ≡ true → length out ≡ 1499 → As got (came-to got (length out)) →
+      Stepped e f u v p p′ block block bytes i (Handle a) slots s (outcome e u slots (call-of bytes (Handle a)))
   unfolding outcome-of
   handled-short block small long A =
+      let xs = take (a .len) (drop (a .at) bytes) in
       let o = gives (refused 1) (state-of e) in
-      let refuses : (n : ℕ) → n ≡ 1499 → handle (config-of e u) (supply-of u) (state-of e) (arrived bytes a) n ≡ o =
-          λ n is. cond-false (fits (config-of e u) (arrived bytes a) n) _ _ (and-right _ _ (ap (leb 1500) is)) in
-      let B : Answered e f u v out out′ k k′ (arrived bytes a) r o = subst (Answered e f u v out out′ k k′ (arrived bytes a) r) (refuses (length out) long) A in
-      subst (Stepped e f u v p (pooled r p i) block block bytes i (Handle a) slots (noted r k′)) (sym (refuses (room-of a) (cond-true (a .small) 1499 1500 small)))
+      let refuses : (n : ℕ) → n ≡ 1499 → came-to xs n ≡ o = λ n is. cond-false (fits (config-of e u) (arrived bytes a) n) _ _ (and-right _ _ (ap (leb 1500) is)) in
+      let B : As xs o = subst (As xs) (refuses (length out) long) (subst (λ bs. As bs (came-to bs (length out))) part A) in
+      subst (Stepped e f u v p p′ block block bytes i (Handle a) slots s) (sym (refuses (room-of a) (cond-true (a .small) 1499 1500 small)))
       (record {
-        answer = refusal-noted bytes a (arrived bytes a) out′ block k′ 1 r (B .answer);
+        answer = ap (answer-to bytes (Handle a) block) says ∙ refusal-noted bytes a (arrived bytes a) out′ block k′ 1 r (B .answer);
         state = B .state;
         drawn = B .drawn;
-        pool = handled-pool o (room-of a) B;
+        pool = handled-pool o B;
         block = refl;
         frame = B .frame;
       })
@@ -205,7 +230,7 @@ voids e p p′ b same none u block bytes i slots H =
     (record { answer = refl; state = refl; drawn = sym (spent-none u); pool = subst (λ q. Holds (e .number) q slots) (sym same) H; block = refl; frame = same-frame e })
 
 -- what `ignore` says, as a plain value
-abbrev said-of : {A : Type 0} → Result A HandedBack → said.Answer
+abbrev pub said-of : {A : Type 0} → Result A HandedBack → said.Answer
 said-of (Ok x) = says.Ignored
 said-of (Err b) = says.Refused (b .cause)
 
@@ -216,7 +241,7 @@ said-as bytes b block (Err h) = refl
 module _ {A : Type 0} (e f : Endpoint) (p p′ : List (Option Attempt)) (b : code.Brought) (a : Attempt) (r : Result A HandedBack) where
   -- the pool after it
   abbrev Leaves : Type 0
-  Leaves = (i : ℕ) (slots : ℕ → Option ℕ) (m : Option Waiting) → ignored-of r ≡ ignore-of (state-of e) m .answer → Holds (e .number) p slots →
+  Leaves = (i : ℕ) (slots : ℕ → Option ℕ) (m : Option Waiting) → ignored-of r ≡ ignore-of (state-of e) m .answer → Back a r → Holds (e .number) p slots →
       Holds (e .number) p′ (slots-after slots i (runs.ignores (attempt-of b)) (ignore-of (state-of e) m .answer))
 
   ignored-by : Leaves → (u : Supplied) (block bytes : List ℕ) (i : ℕ) (slots : ℕ → Option ℕ) (m : Option Waiting) → Ignored e f a r (ignore-of (state-of e) m) →
@@ -225,7 +250,7 @@ module _ {A : Type 0} (e f : Endpoint) (p p′ : List (Option Attempt)) (b : cod
     answer = said-as bytes b block r ∙ I .answer;
     state = I .state;
     drawn = sym (spent-none u);
-    pool = L i slots None (I .answer) H;
+    pool = L i slots None (I .answer) (I .back) H;
     block = refl;
     frame = I .frame;
   }
@@ -233,7 +258,7 @@ module _ {A : Type 0} (e f : Endpoint) (p p′ : List (Option Attempt)) (b : cod
     answer = said-as bytes b block r ∙ I .answer;
     state = I .state;
     drawn = sym (spent-none u);
-    pool = L i slots (Some w) (I .answer) H;
+    pool = L i slots (Some w) (I .answer) (I .back) H;
     block = refl;
     frame = I .frame;
   }
@@ -248,28 +273,33 @@ module _ {A : Type 0} (e f : Endpoint) (p p′ : List (Option Attempt)) (b : cod
       (ignored-by L u block bytes i slots (brought (config-of e u) (state-of e) a) (I u) H)
 
 -- one that a call of the list opened is spent
-pub ignores-opened : {A : Type 0} (e f : Endpoint) (p : List (Option Attempt)) (k : ℕ) (a : Attempt) (x : A) → k < length p → Some a ≡ getD p k None →
-    ((u : Supplied) → Ignored e f a (Ok x) (ignore (config-of e u) (state-of e) a)) → Ignores e f p (set p k None) (Opened k) says.Ignored
-ignores-opened e f p k a x w is =
-    ignores e f p (set p k None) (Opened k) a (Ok x) (λ slots H. sym (H k) ∙ sym is)
-    (λ i slots m says H. subst (λ t. Holds (e .number) (set p k None) (slots-after slots i (runs.ignores (runs.own k)) t)) says (holds-spent (e .number) p k slots w H))
+pub ignores-opened : {A : Type 0} (e f : Endpoint) (p p′ : List (Option Attempt)) (k : ℕ) (a : Attempt) (x : A) → k < length p → Some a ≡ getD p k None → p′ ≡ set p k None →
+    ((u : Supplied) → Ignored e f a (Ok x) (ignore (config-of e u) (state-of e) a)) → Ignores e f p p′ (Opened k) says.Ignored
+ignores-opened e f p p′ k a x w is took =
+    ignores e f p p′ (Opened k) a (Ok x) (λ slots H. sym (H k) ∙ sym is)
+    (λ i slots m says _ H.
+      subst (λ t. Holds (e .number) p′ (slots-after slots i (runs.ignores (runs.own k)) t)) says
+      (subst (λ q. Holds (e .number) q (λ j. cond (eqb j k) None (slots j))) (sym took) (holds-spent (e .number) p k slots w H)))
 
 -- or handed back
-pub keeps-opened : {A : Type 0} (e f : Endpoint) (p p′ : List (Option Attempt)) (k : ℕ) (a : Attempt) (h : HandedBack) → Some a ≡ getD p k None → p′ ≡ p →
-    ((u : Supplied) → Ignored {A = A} e f a (Err h) (ignore (config-of e u) (state-of e) a)) → Ignores e f p p′ (Opened k) (says.Refused (h .cause))
-keeps-opened {A} e f p p′ k a h is same =
-    ignores {A = A} e f p p′ (Opened k) a (Err h) (λ slots H. sym (H k) ∙ sym is)
-    (λ i slots m says H. subst (λ t. Holds (e .number) p′ (slots-after slots i (runs.ignores (runs.own k)) t)) says (subst (λ q. Holds (e .number) q slots) (sym same) H))
+pub keeps-opened : {A : Type 0} (e f : Endpoint) (p p′ p″ : List (Option Attempt)) (k : ℕ) (a : Attempt) (h : HandedBack) →
+    p′ ≡ set p k None → Some a ≡ getD p k None → p″ ≡ set p′ k (Some (h .attempt)) →
+    ((u : Supplied) → Ignored {A = A} e f a (Err h) (ignore (config-of e u) (state-of e) a)) → Ignores e f p p″ (Opened k) (says.Refused (h .cause))
+keeps-opened {A} e f p p′ p″ k a h took there put =
+    ignores {A = A} e f p p″ (Opened k) a (Err h) (λ slots H. sym (H k) ∙ sym there)
+    (λ i slots m says back H.
+      subst (λ t. Holds (e .number) p″ (slots-after slots i (runs.ignores (runs.own k)) t)) says
+      (subst (λ q. Holds (e .number) q slots) (sym (put-back p k (h .attempt) took there put back)) H))
 
 -- one of another endpoint has no place in the pool
-pub ignores-foreign : {A : Type 0} (e f : Endpoint) (p : List (Option Attempt)) (number slot : ℕ) (r : Result A HandedBack) → (number ≡ e .number → ⊥) →
-    ((u : Supplied) → Ignored e f (record { number = number; slot = slot }) r (ignore (config-of e u) (state-of e) (record { number = number; slot = slot }))) →
-    Ignores e f p p (Foreign number slot) (said-of r)
-ignores-foreign e f p number slot r other =
-    ignores e f p p (Foreign number slot) (record { number = number; slot = slot }) r
-    (λ slots H. cond-false (eqb number (e .number)) None _ (ne-eqb number (e .number) other)) leaves
+pub ignores-foreign : {A : Type 0} (e f : Endpoint) (p : List (Option Attempt)) (number slot : ℕ) (a : Attempt) (r : Result A HandedBack) →
+    a ≡ record { number = number; slot = slot } → (number ≡ e .number → ⊥) →
+    ((u : Supplied) → Ignored e f a r (ignore (config-of e u) (state-of e) a)) → Ignores e f p p (Foreign number slot) (said-of r)
+ignores-foreign e f p number slot a r is other =
+    ignores e f p p (Foreign number slot) a r
+    (λ slots H. cond-false (eqb number (e .number)) None _ (ne-eqb number (e .number) other) ∙ ap (λ x. Some x) (sym is)) leaves
   where
-    leaves : (i : ℕ) (slots : ℕ → Option ℕ) (m : Option Waiting) → ignored-of r ≡ ignore-of (state-of e) m .answer → Holds (e .number) p slots →
+    leaves : (i : ℕ) (slots : ℕ → Option ℕ) (m : Option Waiting) → ignored-of r ≡ ignore-of (state-of e) m .answer → Back a r → Holds (e .number) p slots →
         Holds (e .number) p (slots-after slots i (runs.ignores (runs.foreign (record { number = number; slot = slot }))) (ignore-of (state-of e) m .answer))
-    leaves i slots None says H = H
-    leaves i slots (Some w) says H = H
+    leaves i slots None says _ H = H
+    leaves i slots (Some w) says _ H = H
