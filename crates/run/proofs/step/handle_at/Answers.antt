@@ -4,11 +4,12 @@ use Rattle.run.proofs.Stepping.{past-pooled, handled-whole, handled-short}
 use Rattle.run.proofs.step.handle_at.Needs as need
 
 pub returns-then-arrival : need.returns-then-arrival
-returns-then-arrival g c = 
+returns-then-arrival g c =
     let p = c .args .pool .now in
     let r = c .handle-handled .result in
     record {
-      stepped = λ slots H. handled-short (c .args .e .now) (c .handle-handled .last .self) (g .S·Supplies .all (c .args .supplies .now)) (g .S·Supplies .all (c .handle-handled .last .supplies))
+      stepped = λ slots H.
+          handled-short (c .args .e .now) (c .handle-handled .last .self) (g .S·Supplies .all (c .args .supplies .now)) (g .S·Supplies .all (c .handle-handled .last .supplies))
           (replicate 1499 0) (c .handle-handled .last .out) (c .blank-close-close .result) (c .handle-handled .last .close) r
           (c .args .bytes .now) (c .args .arrival) (c .part-of-data .result .now) p (c .note .last .pool) (c .args .i) (c .note .result) (c .part-of-data .ensures) (c .pre .within)
           (c .note .ensures .answer) (c .note .ensures .pool) slots H (c .args .block .now) (c .if-arrival .taken) refl (c .handle-handled .ensures .answered (c .pre .ready));
