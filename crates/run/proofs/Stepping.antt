@@ -3,7 +3,7 @@ use mathlib.Core.Path.{_≡_, refl, sym, ap, subst, _∙_}
 use mathlib.Core.Logic.{inl, inr}
 use mathlib.Core.Bool.{Bool, true, false, cond, _&&_}
 use mathlib.Core.List.{List}
-use Prim.Native.Nat.{ℕ, zero, suc, _<_, _≤_}
+use Prim.Native.Nat.{ℕ, zero, suc, _<_}
 use native.Mathlib.Omega.{arith}
 use lib.Dec.{eqb, leb}
 use lib.ListN.{length, getD, set, take, drop}
@@ -12,30 +12,28 @@ use Rattle.std.specs.declared.option.Option.the-variants.{Some, None}
 use Rattle.std.specs.declared.result.Result.{Result}
 use Rattle.std.specs.declared.result.Result.the-variants.{Ok, Err}
 use Rattle.std.proofs.shelf.Lists.{getD-set-same, getD-set-other, getD-past, set-set, set-getD, length-set}
-use Rattle.std.proofs.shelf.Tests.{cond-true, cond-false, cond-both, cases-eq, cases-lt, eqb-true, eqb-false, eq-eqb, ne-eqb, and-left, and-right}
+use Rattle.std.proofs.shelf.Tests.{cond-true, cond-false, cond-both, cases-eq, cases-lt, eqb-true, eqb-false, ne-eqb, and-left, and-right}
 use Rattle.records.specs.declared.packet.Close.{Close}
 use Rattle.records.specs.declared.incoming.Attempt.{Attempt}
 use Rattle.records.specs.Received.{Datagram, datagram-of}
-use Rattle.supply.specs.Meaning.{Supplied, spent, token-of}
+use Rattle.supply.specs.Meaning.{Supplied, token-of}
 use Rattle.supply.proofs.Spending.{spent-none}
-use Rattle.model.specs.Records.{Id, Token, Answer, refused, delivered, stored, opened, closing, reset, accepted, failed, ignored, issued, done, written}
-use Rattle.model.specs.Endpoint.{State, Outcome, Waiting, is-none}
+use Rattle.model.specs.Records.{Id, Token, Answer, refused, delivered, stored, opened, closing, reset, accepted, failed, ignored, issued, done}
+use Rattle.model.specs.Endpoint.{Outcome, Waiting, is-none}
 use Rattle.model.specs.Calls.{gives, sealed, handle, fits, ignore, ignore-of, brought}
 use Rattle.model.specs.Runs as runs
 use Rattle.model.specs.Runs.{outcome-of, opened-slot, put-slot, slots-after, spent-by, in-hand, incoming, with-attempt}
-use Rattle.resets.specs.Bytes.{over}
 use Rattle.endpoint.specs.declared.endpoint.Endpoint.{Endpoint}
 use Rattle.endpoint.specs.declared.handled.Handled.{Handled}
 use Rattle.endpoint.specs.declared.handled.Handled.the-variants as handled
 use Rattle.endpoint.specs.declared.handled.HandedBack.{HandedBack}
-use Rattle.endpoint.specs.State.{state-of, config-of, supply-of, Frame}
+use Rattle.endpoint.specs.State.{state-of, config-of, supply-of}
 use Rattle.endpoint.specs.Answers.{answer-of, Numbered, Answered}
 use Rattle.endpoint.specs.Ignoring.{Ignored, ignored-of, Back}
 use Rattle.endpoint.proofs.Answering.{same-frame}
 use Rattle.calls.specs.declared.call.Arrival.{Arrival}
 use Rattle.calls.specs.declared.call.Brought as code
 use Rattle.calls.specs.declared.call.Brought.the-variants.{Opened, Foreign}
-use Rattle.calls.specs.declared.call.Call as called
 use Rattle.calls.specs.declared.call.Call.the-variants.{Handle, Ignore}
 use Rattle.calls.specs.declared.answer.Answer as said
 use Rattle.calls.specs.declared.answer.Answer.the-variants as says
@@ -50,8 +48,8 @@ pub not-all-none : (pool : List (Option Attempt)) (n i : ℕ) → i < n → is-n
 not-all-none pool zero i h e = absurd (omega arith)
 not-all-none pool (suc n) i h e =
     elim (cases-eq i n) [
-      inl p ↦ and-left _ _ (ap (λ j. is-none (getD pool j None)) (sym p) ∙ e)
-    | inr q ↦ and-right (is-none (getD pool n None)) _ (not-all-none pool n i (omega (arith, q)) e)
+      | inl p ↦ and-left _ _ (ap (λ j. is-none (getD pool j None)) (sym p) ∙ e)
+      | inr q ↦ and-right (is-none (getD pool n None)) _ (not-all-none pool n i (omega (arith, q)) e)
     ]
 
 -- sealing opens the same slot
@@ -91,6 +89,10 @@ holds-spent number p k slots w H j =
     (λ t. ap (λ i. getD (set p k None) i None) (eqb-true j k t) ∙ getD-set-same p k None None w)
     (λ t. getD-set-other p k j None None (eqb-false j k t) ∙ H j)
 
+-- to take an attempt that is not there changes nothing
+pub took-none : (p : List (Option Attempt)) (k : ℕ) {p′ : List (Option Attempt)} → p′ ≡ set p k None → None ≡ getD p k None → p′ ≡ p
+took-none p k took none = took ∙ ap (set p k) none ∙ set-getD p k None
+
 -- an empty place stays empty where nothing changes
 pub still-same : {p p′ : List (Option Attempt)} → p′ ≡ p → Still-empty p p′
 still-same same k e = ap (λ q. getD q k None) same ∙ e
@@ -100,11 +102,11 @@ pub still-taken : (p : List (Option Attempt)) (k : ℕ) {p′ : List (Option Att
 still-taken p k took j e =
     ap (λ q. getD q j None) took
     ∙ elim (cases-eq j k) as (λ _. getD (set p k None) j None ≡ None) [
-      inl q ↦ elim (cases-lt k (length p)) as (λ _. getD (set p k None) j None ≡ None) [
-        inl h ↦ ap (λ n. getD (set p k None) n None) q ∙ getD-set-same p k None None h
-      | inr h ↦ getD-past (set p k None) j None (simp length-set (omega (arith, q, h)))
+      | inl q ↦ elim (cases-lt k (length p)) as (λ _. getD (set p k None) j None ≡ None) [
+        | inl h ↦ ap (λ n. getD (set p k None) n None) q ∙ getD-set-same p k None None h
+        | inr h ↦ getD-past (set p k None) j None (simp length-set (omega (arith, q, h)))
       ]
-    | inr q ↦ getD-set-other p k j None None q ∙ e
+      | inr q ↦ getD-set-other p k j None None q ∙ e
     ]
 
 -- and where it is put back
@@ -112,8 +114,8 @@ pub still-put : (p : List (Option Attempt)) (k : ℕ) (b : Attempt) {a : Attempt
 still-put p k b took there put j e =
     ap (λ q. getD q j None) (put ∙ ap (λ q. set q k (Some b)) took ∙ set-set p k None (Some b))
     ∙ elim (cases-eq j k) as (λ _. getD (set p k (Some b)) j None ≡ None) [
-      inl q ↦ let z : _≡_ {A = ℕ} 0 1 = cc in absurd (omega arith)
-    | inr q ↦ getD-set-other p k j (Some b) None q ∙ e
+      | inl q ↦ let z : _≡_ {A = ℕ} 0 1 = cc in absurd (omega arith)
+      | inr q ↦ getD-set-other p k j (Some b) None q ∙ e
     ]
 
 -- what is put back is where it was
@@ -172,9 +174,11 @@ module _ (e f : Endpoint) (u v : Supplied) (out out′ : List ℕ) (k k′ : Clo
   abbrev came-to : List ℕ → ℕ → Outcome
   came-to bs room = handle (config-of e u) (supply-of u) (state-of e) (datagram-of (a .datagram) bs) room
 
+  -- the datagram with these bytes had this outcome
   abbrev As : List ℕ → Outcome → Type 0
   As bs o = Answered e f u v out out′ k k′ (datagram-of (a .datagram) bs) r o
 
+  -- the pool holds the slots after it
   handled-pool : (o : Outcome) → As (take (a .len) (drop (a .at) bytes)) o → Holds (e .number) p′ (slots-after slots i (call-of bytes (Handle a)) (o .answer))
   handled-pool o A j =
       let d = arrived bytes a in
@@ -229,11 +233,16 @@ voids e p p′ b same none u block bytes i slots H =
     (sym (ap (with-attempt (state-of e) (λ a. ignore (config-of e u) (state-of e) a)) (none slots H)))
     (record { answer = refl; state = refl; drawn = sym (spent-none u); pool = subst (λ q. Holds (e .number) q slots) (sym same) H; block = refl; frame = same-frame e })
 
+-- as where no call of the list opened one, or it is spent
+pub void-opened : (e : Endpoint) (p p′ : List (Option Attempt)) (k : ℕ) → p′ ≡ p → None ≡ getD p k None → Ignores e e p p′ (Opened k) says.Void
+void-opened e p p′ k same none = voids e p p′ (Opened k) same (λ slots H. sym (H k) ∙ sym none)
+
 -- what `ignore` says, as a plain value
 abbrev pub said-of : {A : Type 0} → Result A HandedBack → said.Answer
 said-of (Ok x) = says.Ignored
 said-of (Err b) = says.Refused (b .cause)
 
+-- it says what the answer says
 said-as : {A : Type 0} (bytes : List ℕ) (b : code.Brought) (block : List ℕ) (r : Result A HandedBack) → answer-to bytes (Ignore b) block (said-of r) ≡ ignored-of r
 said-as bytes b block (Ok x) = refl
 said-as bytes b block (Err h) = refl
@@ -244,6 +253,7 @@ module _ {A : Type 0} (e f : Endpoint) (p p′ : List (Option Attempt)) (b : cod
   Leaves = (i : ℕ) (slots : ℕ → Option ℕ) (m : Option Waiting) → ignored-of r ≡ ignore-of (state-of e) m .answer → Back a r → Holds (e .number) p slots →
       Holds (e .number) p′ (slots-after slots i (runs.ignores (attempt-of b)) (ignore-of (state-of e) m .answer))
 
+  -- the call had its outcome, whichever attempt waits
   ignored-by : Leaves → (u : Supplied) (block bytes : List ℕ) (i : ℕ) (slots : ℕ → Option ℕ) (m : Option Waiting) → Ignored e f a r (ignore-of (state-of e) m) →
       Holds (e .number) p slots → Stepped e f u u p p′ block block bytes i (Ignore b) slots (said-of r) (ignore-of (state-of e) m)
   ignored-by L u block bytes i slots None I H = record {
@@ -278,8 +288,8 @@ pub ignores-opened : {A : Type 0} (e f : Endpoint) (p p′ : List (Option Attemp
 ignores-opened e f p p′ k a x w is took =
     ignores e f p p′ (Opened k) a (Ok x) (λ slots H. sym (H k) ∙ sym is)
     (λ i slots m says _ H.
-      subst (λ t. Holds (e .number) p′ (slots-after slots i (runs.ignores (runs.own k)) t)) says
-      (subst (λ q. Holds (e .number) q (λ j. cond (eqb j k) None (slots j))) (sym took) (holds-spent (e .number) p k slots w H)))
+    subst (λ t. Holds (e .number) p′ (slots-after slots i (runs.ignores (runs.own k)) t)) says
+    (subst (λ q. Holds (e .number) q (λ j. cond (eqb j k) None (slots j))) (sym took) (holds-spent (e .number) p k slots w H)))
 
 -- or handed back
 pub keeps-opened : {A : Type 0} (e f : Endpoint) (p p′ p″ : List (Option Attempt)) (k : ℕ) (a : Attempt) (h : HandedBack) →
@@ -288,8 +298,8 @@ pub keeps-opened : {A : Type 0} (e f : Endpoint) (p p′ p″ : List (Option Att
 keeps-opened {A} e f p p′ p″ k a h took there put =
     ignores {A = A} e f p p″ (Opened k) a (Err h) (λ slots H. sym (H k) ∙ sym there)
     (λ i slots m says back H.
-      subst (λ t. Holds (e .number) p″ (slots-after slots i (runs.ignores (runs.own k)) t)) says
-      (subst (λ q. Holds (e .number) q slots) (sym (put-back p k (h .attempt) took there put back)) H))
+    subst (λ t. Holds (e .number) p″ (slots-after slots i (runs.ignores (runs.own k)) t)) says
+    (subst (λ q. Holds (e .number) q slots) (sym (put-back p k (h .attempt) took there put back)) H))
 
 -- one of another endpoint has no place in the pool
 pub ignores-foreign : {A : Type 0} (e f : Endpoint) (p : List (Option Attempt)) (number slot : ℕ) (a : Attempt) (r : Result A HandedBack) →

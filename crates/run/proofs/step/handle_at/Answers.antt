@@ -1,5 +1,5 @@
-use mathlib.Core.Path.{_≡_, refl, sym, ap, subst, _∙_}
-use lib.ListN.{length, replicate}
+use mathlib.Core.Path.{refl}
+use lib.ListN.{replicate}
 use Rattle.run.proofs.Stepping.{past-pooled, handled-whole, handled-short}
 use Rattle.run.proofs.step.handle_at.Needs as need
 

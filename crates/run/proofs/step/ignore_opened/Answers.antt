@@ -1,9 +1,7 @@
-use mathlib.Core.Path.{refl, sym, ap, _∙_}
-use lib.ListN.{set}
+use mathlib.Core.Path.{refl, sym}
 use Rattle.std.specs.declared.option.Option.the-variants.{None}
-use Rattle.std.proofs.shelf.Lists.{getD-past, set-getD}
-use Rattle.calls.specs.declared.call.Brought.the-variants.{Opened}
-use Rattle.run.proofs.Stepping.{still-same, still-taken, still-put, voids, ignores-opened, keeps-opened}
+use Rattle.std.proofs.shelf.Lists.{getD-past}
+use Rattle.run.proofs.Stepping.{took-none, still-same, still-taken, still-put, void-opened, ignores-opened, keeps-opened}
 use Rattle.run.proofs.step.ignore_opened.Needs as need
 
 pub returns-then-k-pool : need.returns-then-k-pool
@@ -11,7 +9,7 @@ returns-then-k-pool c =
     let e = c .args .e .now in
     let p = c .args .pool .now in
     let k = c .args .k in
-    record { ignores = voids e p p (Opened k) refl (λ slots H. sym (H k) ∙ getD-past p k None (c .if-k-pool .taken)); empty = still-same {p = p} refl }
+    record { ignores = void-opened e p p k refl (sym (getD-past p k None (c .if-k-pool .taken))); empty = still-same {p = p} refl }
 
 pub returns-in-None : need.returns-in-None
 returns-in-None c =
@@ -19,8 +17,8 @@ returns-in-None c =
     let p = c .args .pool .now in
     let k = c .args .k in
     let none = c .in-None .ensures tt .value in
-    let same = c .in-None .ensures tt .after ∙ ap (set p k) none ∙ set-getD p k None in
-    record { ignores = voids e p (c .take .last .pool) (Opened k) same (λ slots H. sym (H k) ∙ sym none); empty = still-same same }
+    let same = took-none p k (c .in-None .ensures tt .after) none in
+    record { ignores = void-opened e p (c .take .last .pool) k same none; empty = still-same same }
 
 pub returns-in-Ok : need.returns-in-Ok
 returns-in-Ok c =

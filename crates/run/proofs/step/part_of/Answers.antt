@@ -1,4 +1,4 @@
-use mathlib.Core.Path.{_≡_, sym, ap, ap₂, _∙_}
+use mathlib.Core.Path.{_≡_, sym, ap, _∙_}
 use mathlib.Core.Logic.{inl, inr}
 use mathlib.Core.List.{List}
 use Prim.Native.Nat.{ℕ, _+_, _-_, min}
@@ -12,15 +12,16 @@ use Rattle.run.proofs.step.part_of.Needs as need
 drop-min : (xs : List ℕ) (n : ℕ) → drop (min n (length xs)) xs ≡ drop n xs
 drop-min xs n =
     elim (cases-lt n (length xs)) [
-      inl h ↦ let e : min n (length xs) ≡ n = omega (arith, h) in ap (λ k. drop k xs) e
-    | inr h ↦ let e : min n (length xs) ≡ length xs = omega (arith, h) in ap (λ k. drop k xs) e ∙ drop-all (length xs) xs (omega arith) ∙ sym (drop-all n xs h)
+      | inl h ↦ let e : min n (length xs) ≡ n = omega (arith, h) in ap (λ k. drop k xs) e
+      | inr h ↦ let e : min n (length xs) ≡ length xs = omega (arith, h) in ap (λ k. drop k xs) e ∙ drop-all (length xs) xs (omega arith) ∙ sym (drop-all n xs h)
     ]
 
+-- and so for what is taken
 take-min : (xs : List ℕ) (n : ℕ) → take (min n (length xs)) xs ≡ take n xs
 take-min xs n =
     elim (cases-lt n (length xs)) [
-      inl h ↦ let e : min n (length xs) ≡ n = omega (arith, h) in ap (λ k. take k xs) e
-    | inr h ↦ let e : min n (length xs) ≡ length xs = omega (arith, h) in ap (λ k. take k xs) e ∙ take-all (length xs) xs (omega arith) ∙ sym (take-all n xs h)
+      | inl h ↦ let e : min n (length xs) ≡ n = omega (arith, h) in ap (λ k. take k xs) e
+      | inr h ↦ let e : min n (length xs) ≡ length xs = omega (arith, h) in ap (λ k. take k xs) e ∙ take-all (length xs) xs (omega arith) ∙ sym (take-all n xs h)
     ]
 
 pub returns : need.returns
