@@ -15,7 +15,10 @@ use Rattle.std.proofs.shelf.Lists.{getD-set-same, getD-set-other, getD-past, se
 use Rattle.std.proofs.shelf.Tests.{cond-true, cond-false, cond-both, cases-eq, cases-lt, eqb-true, eqb-false, ne-eqb, and-left, and-right}
 use Rattle.records.specs.declared.packet.Close.{Close}
 use Rattle.records.specs.declared.incoming.Attempt.{Attempt}
+use Rattle.records.specs.Ids.{no-id}
 use Rattle.records.specs.Received.{Datagram, datagram-of}
+use Rattle.supply.specs.declared.answers.Opens.the-variants.{Closed}
+use Rattle.supply.specs.declared.answers.Greets.the-variants.{Other}
 use Rattle.supply.specs.Meaning.{Supplied, token-of}
 use Rattle.supply.proofs.Spending.{spent-none}
 use Rattle.model.specs.Records.{Id, Token, Answer, refused, delivered, stored, opened, closing, reset, accepted, failed, ignored, issued, done}
@@ -27,7 +30,7 @@ use Rattle.endpoint.specs.declared.endpoint.Endpoint.{Endpoint}
 use Rattle.endpoint.specs.declared.handled.Handled.{Handled}
 use Rattle.endpoint.specs.declared.handled.Handled.the-variants as handled
 use Rattle.endpoint.specs.declared.handled.HandedBack.{HandedBack}
-use Rattle.endpoint.specs.State.{state-of, config-of, supply-of}
+use Rattle.endpoint.specs.State.{state-of, config-of, supply-of, Frame}
 use Rattle.endpoint.specs.Answers.{answer-of, Numbered, Answered}
 use Rattle.endpoint.specs.Ignoring.{Ignored, ignored-of, Back}
 use Rattle.endpoint.proofs.Answering.{same-frame}
@@ -281,6 +284,19 @@ module _ {A : Type 0} (e f : Endpoint) (p p′ : List (Option Attempt)) (b : cod
       subst (Stepped e f u u p p′ block block bytes i (Ignore b) slots (said-of r))
       (sym (ap (with-attempt (state-of e) (λ x. ignore (config-of e u) (state-of e) x)) (some slots H)))
       (ignored-by L u block bytes i slots (brought (config-of e u) (state-of e) a) (I u) H)
+
+-- suppliers that give nothing
+abbrev nothing : Supplied
+nothing = record {
+  generator = record { len = 0; draw = λ i. no-id; valid = λ i x. false };
+  source = λ i. 0;
+  signer = λ message. message;
+  door = record { knows = λ version x. false; opens = λ d. Closed; proves = λ d. false; greets = λ d h xs. Other };
+}
+
+-- whatever the suppliers, it leaves what no call changes
+pub ignored-frame : {A : Type 0} (e f : Endpoint) (a : Attempt) (r : Result A HandedBack) → ((u : Supplied) → Ignored e f a r (ignore (config-of e u) (state-of e) a)) → Frame e f
+ignored-frame e f a r I = I nothing .frame
 
 -- one that a call of the list opened is spent
 pub ignores-opened : {A : Type 0} (e f : Endpoint) (p p′ : List (Option Attempt)) (k : ℕ) (a : Attempt) (x : A) → k < length p → Some a ≡ getD p k None → p′ ≡ set p k None →

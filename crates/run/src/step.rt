@@ -25,6 +25,7 @@ ghost use Rattle.std.specs.declared.option.Option.the-variants.{None};
 ghost use Rattle.calls.specs.declared.call.Call.the-variants.{Handle};
 ghost use Rattle.calls.specs.declared.call.Brought.the-variants.{Opened, Foreign};
 ghost use Rattle.calls.specs.Lists.{call-of};
+ghost use Rattle.endpoint.specs.State.{Frame};
 ghost use Rattle.run.specs.Pools.{Holds, Still-empty, Empty-past};
 ghost use Rattle.run.specs.Steps.{outcome, Stepped, noted, pooled, Ignores};
 
@@ -91,6 +92,7 @@ fn handle_at<S: Supplies>(
     requires free { ⌜ getD (now pool) i None ≡ None ⌝ }
     ensures stepped { λ r. ⌜ ((slots : ℕ → OptionOf ℕ) → Holds (now (e .entry) .number) (now (pool .entry)) slots → Stepped (now (e .entry)) (now (e .exit)) (all (now (supplies .entry))) (all (now (supplies .exit))) (now (pool .entry)) (now (pool .exit)) (now (block .entry)) (now (block .exit)) (now (bytes .entry)) i (Handle arrival) slots r (outcome (now (e .entry)) (all (now (supplies .entry))) slots (call-of (now (bytes .entry)) (Handle arrival)))) ⌝ }
     ensures later { λ _. ⌜ Empty-past i (now (pool .entry)) (now (pool .exit)) ⌝ }
+    ensures frame { λ _. ⌜ Frame (now (e .entry)) (now (e .exit)) ⌝ }
 {
     let mut close = blank_close();
     let data = part_of(bytes, arrival.at, arrival.len);
@@ -108,6 +110,7 @@ fn ignore_opened(e: &mut Endpoint, pool: &mut [Option<Attempt>], k: usize) -> An
     requires { ⌜ now e .ready ≡ true ⌝ }
     ensures ignores { λ r. ⌜ Ignores (now (e .entry)) (now (e .exit)) (now (pool .entry)) (now (pool .exit)) (Opened k) r ⌝ }
     ensures empty { λ _. ⌜ Still-empty (now (pool .entry)) (now (pool .exit)) ⌝ }
+    ensures frame { λ _. ⌜ Frame (now (e .entry)) (now (e .exit)) ⌝ }
 {
     if k >= pool.len() {
         return Answer::Void;
@@ -127,7 +130,8 @@ fn ignore_opened(e: &mut Endpoint, pool: &mut [Option<Attempt>], k: usize) -> An
 // An attempt of another endpoint is handed back, and ends here.
 fn ignore_foreign(e: &mut Endpoint, pool: &[Option<Attempt>], number: u32, slot: u32) -> Answer
     requires { ⌜ now e .ready ≡ true ⌝ }
-    ensures { λ r. ⌜ Ignores (now (e .entry)) (now (e .exit)) (now (pool .entry)) (now (pool .entry)) (Foreign number slot) r ⌝ }
+    ensures ignores { λ r. ⌜ Ignores (now (e .entry)) (now (e .exit)) (now (pool .entry)) (now (pool .entry)) (Foreign number slot) r ⌝ }
+    ensures frame { λ _. ⌜ Frame (now (e .entry)) (now (e .exit)) ⌝ }
 {
     if number == e.number() {
         return Answer::Void;
@@ -145,6 +149,7 @@ fn ignore_at(e: &mut Endpoint, pool: &mut [Option<Attempt>], brought: Brought) -
     requires { ⌜ now e .ready ≡ true ⌝ }
     ensures ignores { λ r. ⌜ Ignores (now (e .entry)) (now (e .exit)) (now (pool .entry)) (now (pool .exit)) brought r ⌝ }
     ensures empty { λ _. ⌜ Still-empty (now (pool .entry)) (now (pool .exit)) ⌝ }
+    ensures frame { λ _. ⌜ Frame (now (e .entry)) (now (e .exit)) ⌝ }
 {
     match brought {
         Brought::Opened(k) => ignore_opened(e, pool, k),
@@ -167,6 +172,7 @@ pub(crate) fn step<S: Supplies>(
     requires free { ⌜ getD (now pool) i None ≡ None ⌝ }
     ensures stepped { λ r. ⌜ ((slots : ℕ → OptionOf ℕ) → Holds (now (e .entry) .number) (now (pool .entry)) slots → Stepped (now (e .entry)) (now (e .exit)) (all (now (supplies .entry))) (all (now (supplies .exit))) (now (pool .entry)) (now (pool .exit)) (now (block .entry)) (now (block .exit)) (now (bytes .entry)) i call slots r (outcome (now (e .entry)) (all (now (supplies .entry))) slots (call-of (now (bytes .entry)) call))) ⌝ }
     ensures later { λ _. ⌜ Empty-past i (now (pool .entry)) (now (pool .exit)) ⌝ }
+    ensures frame { λ _. ⌜ Frame (now (e .entry)) (now (e .exit)) ⌝ }
 {
     match call {
         Call::Handle(arrival) => handle_at(e, supplies, pool, block, bytes, i, arrival),

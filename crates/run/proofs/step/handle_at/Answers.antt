@@ -14,6 +14,7 @@ returns-then-arrival g c =
           (c .args .bytes .now) (c .args .arrival) (c .part-of-data .result .now) p (c .note .last .pool) (c .args .i) (c .note .result) (c .part-of-data .ensures) (c .pre .within)
           (c .note .ensures .answer) (c .note .ensures .pool) slots H (c .args .block .now) (c .if-arrival .taken) refl (c .handle-handled .ensures .answered (c .pre .ready));
       later = past-pooled r p (c .args .i) (c .note .ensures .pool);
+      frame = c .handle-handled .ensures .answered (c .pre .ready) .frame;
     }
 
 pub returns : need.returns
@@ -27,4 +28,5 @@ returns g c =
           (c .args .bytes .now) (c .args .arrival) (c .part-of-data .result .now) p (c .note-2 .last .pool) (c .args .i) (c .note-2 .result) (c .part-of-data .ensures) (c .pre .within)
           (c .note-2 .ensures .answer) (c .note-2 .ensures .pool) slots H (c .if-arrival .left) (c .told-block) (c .handle-handled-2 .ensures .answered (c .pre .ready));
       later = past-pooled r p (c .args .i) (c .note-2 .ensures .pool);
+      frame = c .handle-handled-2 .ensures .answered (c .pre .ready) .frame;
     }

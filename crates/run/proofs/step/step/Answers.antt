@@ -15,4 +15,5 @@ returns-in-Ignore g c =
           subst (λ call. Stepped e (c .ignore-at .last .e) u u p (c .ignore-at .last .pool) block block bytes (c .args .i) call slots (c .ignore-at .result) (outcome e u slots (call-of bytes call)))
           (sym (c .in-Ignore .is)) (c .ignore-at .ensures .ignores u block bytes (c .args .i) slots H);
       later = λ k h e. c .ignore-at .ensures .empty k e;
+      frame = c .ignore-at .ensures .frame;
     }
