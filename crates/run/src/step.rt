@@ -26,7 +26,7 @@ ghost use Rattle.calls.specs.declared.call.Call.the-variants.{Handle};
 ghost use Rattle.calls.specs.declared.call.Brought.the-variants.{Opened, Foreign};
 ghost use Rattle.calls.specs.Lists.{call-of};
 ghost use Rattle.endpoint.specs.State.{Frame};
-ghost use Rattle.run.specs.Pools.{Holds};
+ghost use Rattle.run.specs.Pools.{Holds, Still-empty, Empty-past};
 ghost use Rattle.run.specs.Steps.{outcome, Stepped, noted, pooled, Ignores};
 
 // What a place for a close holds before one is put there.
@@ -90,7 +90,9 @@ fn handle_at<S: Supplies>(
     requires ready { ⌜ now e .ready ≡ true ⌝ }
     requires within { ⌜ i < length (now pool) ⌝ }
     requires free { ⌜ getD (now pool) i None ≡ None ⌝ }
-    ensures { λ r. ⌜ ((slots : ℕ → OptionOf ℕ) → Holds (now (e .entry) .number) (now (pool .entry)) slots → Stepped (now (e .entry)) (now (e .exit)) (all (now (supplies .entry))) (all (now (supplies .exit))) (now (pool .entry)) (now (pool .exit)) (now (block .entry)) (now (block .exit)) (now (bytes .entry)) i (Handle arrival) slots r (outcome (now (e .entry)) (all (now (supplies .entry))) slots (call-of (now (bytes .entry)) (Handle arrival)))) ⌝ }
+    ensures stepped { λ r. ⌜ ((slots : ℕ → OptionOf ℕ) → Holds (now (e .entry) .number) (now (pool .entry)) slots → Stepped (now (e .entry)) (now (e .exit)) (all (now (supplies .entry))) (all (now (supplies .exit))) (now (pool .entry)) (now (pool .exit)) (now (block .entry)) (now (block .exit)) (now (bytes .entry)) i (Handle arrival) slots r (outcome (now (e .entry)) (all (now (supplies .entry))) slots (call-of (now (bytes .entry)) (Handle arrival)))) ⌝ }
+    ensures later { λ _. ⌜ Empty-past i (now (pool .entry)) (now (pool .exit)) ⌝ }
+    ensures frame { λ _. ⌜ Frame (now (e .entry)) (now (e .exit)) ⌝ }
 {
     let mut close = blank_close();
     let data = part_of(bytes, arrival.at, arrival.len);
@@ -106,7 +108,9 @@ fn handle_at<S: Supplies>(
 // Spends an attempt, or keeps it in its place.
 fn ignore_opened(e: &mut Endpoint, pool: &mut [Option<Attempt>], k: usize) -> Answer
     requires { ⌜ now e .ready ≡ true ⌝ }
-    ensures { λ r. ⌜ Ignores (now (e .entry)) (now (e .exit)) (now (pool .entry)) (now (pool .exit)) (Opened k) r ⌝ }
+    ensures ignores { λ r. ⌜ Ignores (now (e .entry)) (now (e .exit)) (now (pool .entry)) (now (pool .exit)) (Opened k) r ⌝ }
+    ensures empty { λ _. ⌜ Still-empty (now (pool .entry)) (now (pool .exit)) ⌝ }
+    ensures frame { λ _. ⌜ Frame (now (e .entry)) (now (e .exit)) ⌝ }
 {
     if k >= pool.len() {
         return Answer::Void;
@@ -126,7 +130,8 @@ fn ignore_opened(e: &mut Endpoint, pool: &mut [Option<Attempt>], k: usize) -> An
 // An attempt of another endpoint is handed back, and ends here.
 fn ignore_foreign(e: &mut Endpoint, pool: &[Option<Attempt>], number: u32, slot: u32) -> Answer
     requires { ⌜ now e .ready ≡ true ⌝ }
-    ensures { λ r. ⌜ Ignores (now (e .entry)) (now (e .exit)) (now (pool .entry)) (now (pool .entry)) (Foreign number slot) r ⌝ }
+    ensures ignores { λ r. ⌜ Ignores (now (e .entry)) (now (e .exit)) (now (pool .entry)) (now (pool .entry)) (Foreign number slot) r ⌝ }
+    ensures frame { λ _. ⌜ Frame (now (e .entry)) (now (e .exit)) ⌝ }
 {
     if number == e.number() {
         return Answer::Void;
@@ -142,7 +147,9 @@ fn ignore_foreign(e: &mut Endpoint, pool: &[Option<Attempt>], number: u32, slot:
 
 fn ignore_at(e: &mut Endpoint, pool: &mut [Option<Attempt>], brought: Brought) -> Answer
     requires { ⌜ now e .ready ≡ true ⌝ }
-    ensures { λ r. ⌜ Ignores (now (e .entry)) (now (e .exit)) (now (pool .entry)) (now (pool .exit)) brought r ⌝ }
+    ensures ignores { λ r. ⌜ Ignores (now (e .entry)) (now (e .exit)) (now (pool .entry)) (now (pool .exit)) brought r ⌝ }
+    ensures empty { λ _. ⌜ Still-empty (now (pool .entry)) (now (pool .exit)) ⌝ }
+    ensures frame { λ _. ⌜ Frame (now (e .entry)) (now (e .exit)) ⌝ }
 {
     match brought {
         Brought::Opened(k) => ignore_opened(e, pool, k),
@@ -164,7 +171,7 @@ pub(crate) fn step<S: Supplies>(
     requires within { ⌜ i < length (now pool) ⌝ }
     requires free { ⌜ getD (now pool) i None ≡ None ⌝ }
     ensures stepped { λ r. ⌜ ((slots : ℕ → OptionOf ℕ) → Holds (now (e .entry) .number) (now (pool .entry)) slots → Stepped (now (e .entry)) (now (e .exit)) (all (now (supplies .entry))) (all (now (supplies .exit))) (now (pool .entry)) (now (pool .exit)) (now (block .entry)) (now (block .exit)) (now (bytes .entry)) i call slots r (outcome (now (e .entry)) (all (now (supplies .entry))) slots (call-of (now (bytes .entry)) call))) ⌝ }
-    ensures later { λ _. ⌜ ((k : ℕ) → i < k → getD (now (pool .entry)) k None ≡ None → getD (now (pool .exit)) k None ≡ None) ⌝ }
+    ensures later { λ _. ⌜ Empty-past i (now (pool .entry)) (now (pool .exit)) ⌝ }
     ensures frame { λ _. ⌜ Frame (now (e .entry)) (now (e .exit)) ⌝ }
 {
     match call {
