@@ -13,6 +13,7 @@ use records::token::RemoteToken;
 use std::alloc::AllocError;
 use std::alloc::Global;
 use table::slot::Slot;
+use table::slot::SlotClone;
 
 /// The memory that is lent to an endpoint.
 #[derive(Drop)]
