@@ -1,3 +1,1 @@
-pub mod Fills
-pub mod Hex
 pub mod Withins

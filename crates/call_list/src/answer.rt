@@ -16,7 +16,7 @@ use records::cause::Cause;
 use std::alloc::AllocError;
 use std::alloc::Global;
 ghost use mathlib.Core.Path.{_≡_};
-ghost use Rattle.call_list.specs.Words.{cause-word};
+ghost use Rattle.words.specs.Words.{cause-word};
 
 /// The word for a cause of this number: the host's mistakes are refused, datagrams dropped, and spent attempts failed.
 fn word_of(cause: u8) -> &'static str

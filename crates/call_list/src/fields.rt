@@ -2,11 +2,11 @@ use crate::form::Field;
 use crate::unread::Unread;
 use crate::unread::UnreadFromAlloc;
 use crate::unread::no_word;
-use crate::words::decimal;
-use crate::words::unhex;
 use records::shared::ConnectionId;
 use std::alloc::AllocError;
 use std::alloc::Global;
+use words::words::decimal;
+use words::words::unhex;
 ghost use mathlib.Core.Bool.{cond};
 ghost use mathlib.Core.List.{[], _∷_};
 ghost use mathlib.Core.Path.{_≡_};
@@ -16,7 +16,7 @@ ghost use Rattle.std.specs.Of.Vec.{vec-items};
 ghost use Rattle.std.specs.Options.{Cases as BySome};
 ghost use Rattle.std.specs.Vec.{made};
 ghost use Rattle.records.specs.Ids.{id-bytes};
-ghost use Rattle.call_list.specs.Words.{bytes-word, read-on, Decimal, Long};
+ghost use Rattle.words.specs.Words.{bytes-word, read-on, Decimal, Long};
 
 /// The words of a text that are parted by one character each.
 pub fn parts<'a>(heap: Global, text: &'a str, by: char) -> Result<Vec<&'a str>, AllocError> {

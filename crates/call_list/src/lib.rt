@@ -10,4 +10,3 @@ pub mod set_up;
 mod set_up_lines;
 mod shown;
 mod unread;
-mod words;

@@ -31,7 +31,10 @@ pub struct Storage {
 
 fn no_addresses() -> FourTuple {
     FourTuple {
-        remote: SocketAddr::V4(SocketAddrV4 { ip: [0; 4], port: 0 }),
+        remote: SocketAddr::V4(SocketAddrV4 {
+            ip: [0; 4],
+            port: 0,
+        }),
         local_ip: None,
     }
 }
@@ -56,12 +59,18 @@ fn no_place() -> Place {
         slot: 0,
         first: false,
         block: 0,
-        kept: Kept { datagram: no_datagram(), len: 0 },
+        kept: Kept {
+            datagram: no_datagram(),
+            len: 0,
+        },
     }
 }
 
 fn no_connection() -> ConnectionMeta {
-    let held = Held { sequence: 0, id: ConnectionId::empty() };
+    let held = Held {
+        sequence: 0,
+        id: ConnectionId::empty(),
+    };
     ConnectionMeta {
         live: false,
         init_cid: ConnectionId::empty(),

@@ -51,11 +51,21 @@ fn row_of(row: &RowText) -> Row {
 fn call_of(line: &Line) -> Call {
     match line {
         Line::Call(call) => *call,
-        Line::Malformed => Call::Handle(Arrival { datagram: no_datagram(), at: 0, len: 0, small: false }),
+        Line::Malformed => Call::Handle(Arrival {
+            datagram: no_datagram(),
+            at: 0,
+            len: 0,
+            small: false,
+        }),
     }
 }
 
-fn suppliers_of(ids: &[ConnectionId], recorded: Vec<u8>, key: [u8; 32], rows: &[Row]) -> Result<Four, Cause> {
+fn suppliers_of(
+    ids: &[ConnectionId],
+    recorded: Vec<u8>,
+    key: [u8; 32],
+    rows: &[Row],
+) -> Result<Four, Cause> {
     Ok(Suppliers {
         generator: ListGenerator::new(ids)?,
         source: Recorded::new(recorded),
@@ -114,7 +124,15 @@ struct Left {
     blocks: Vec<[u8; 1500]>,
 }
 
-fn run_list(heap: Global, four: &mut Four, w: usize, number: u32, settings: Settings, calls: &[Call], bytes: &[u8]) -> Result<Left, AllocError> {
+fn run_list(
+    heap: Global,
+    four: &mut Four,
+    w: usize,
+    number: u32,
+    settings: Settings,
+    calls: &[Call],
+    bytes: &[u8],
+) -> Result<Left, AllocError> {
     let n = calls.len();
     let mut blocks = vec![in heap; [0; 1500]; n]?;
     let mut answers = vec![in heap; Answer::Void; n]?;
@@ -142,11 +160,26 @@ fn run_list(heap: Global, four: &mut Four, w: usize, number: u32, settings: Sett
         connection_reset_tokens: connection_reset_tokens.as_mut_slice(),
     };
     let mut pool = clear_pool(heap, n);
-    let e = run(four, memory, settings, w, number, calls, bytes, pool.as_mut_slice(), blocks.as_mut_slice(), answers.as_mut_slice());
+    let e = run(
+        four,
+        memory,
+        settings,
+        w,
+        number,
+        calls,
+        bytes,
+        pool.as_mut_slice(),
+        blocks.as_mut_slice(),
+        answers.as_mut_slice(),
+    );
     let taken = e.is_ready();
     drop(e);
     end_pool(pool);
-    Ok(Left { taken, answers, blocks })
+    Ok(Left {
+        taken,
+        answers,
+        blocks,
+    })
 }
 
 // One line of text for each call.
@@ -162,15 +195,36 @@ fn lines_of(heap: Global, lines: &[Line], left: &Left) -> Result<Vec<String>, Al
 
 /// Runs a call list that was read.
 pub fn answers_of(heap: Global, parsed: Parsed) -> Result<Session, AllocError> {
-    let Parsed { set_up, calls: lines, bytes, end: _ } = parsed;
-    let SetUp { number, places, settings, ids, recorded, key, rows } = set_up;
+    let Parsed {
+        set_up,
+        calls: lines,
+        bytes,
+        end: _,
+    } = parsed;
+    let SetUp {
+        number,
+        places,
+        settings,
+        ids,
+        recorded,
+        key,
+        rows,
+    } = set_up;
     let rows = rows_of(heap, rows.as_slice())?;
     let calls = calls_of(heap, lines.as_slice())?;
     match suppliers_of(ids.as_slice(), recorded, key, rows.as_slice()) {
         Err(_) => Ok(Session::Refused),
         Ok(four) => {
             let mut four = four;
-            let left = run_list(heap, &mut four, places, number, settings, calls.as_slice(), bytes.as_slice())?;
+            let left = run_list(
+                heap,
+                &mut four,
+                places,
+                number,
+                settings,
+                calls.as_slice(),
+                bytes.as_slice(),
+            )?;
             if !left.taken {
                 return Ok(Session::Refused);
             }

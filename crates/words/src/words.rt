@@ -8,7 +8,7 @@ ghost use Rattle.std.specs.Numbers.{Checked};
 ghost use Rattle.std.specs.Of.Vec.{vec-items, vec-len};
 ghost use Rattle.std.specs.Options.{Cases as BySome};
 ghost use Rattle.std.specs.Vec.{made};
-ghost use Rattle.call_list.specs.Words.{hex-digit, hex-of, bytes-word, None-has, read-on, Decimal, filled};
+ghost use Rattle.words.specs.Words.{hex-digit, hex-of, bytes-word, None-has, read-on, Decimal, filled};
 
 /// The value of a lower-case hexadecimal digit.
 fn nibble(c: u8) -> Option<u8>

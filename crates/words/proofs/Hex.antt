@@ -7,7 +7,7 @@ use lib.ListN.{length, getD, take}
 use Rattle.std.specs.shelf.Lists.{All}
 use Rattle.std.proofs.shelf.Elements.{all-getD}
 use Rattle.std.proofs.shelf.Lists.{take-more}
-use Rattle.call_list.specs.Words.{hex-digit, hex-of, None-has}
+use Rattle.words.specs.Words.{hex-digit, hex-of, None-has}
 
 pub hex-push : (bs : List ℕ) (b : ℕ) → hex-of (bs ++ b ∷ []) ≡ hex-of bs ++ hex-digit (b / 16) ∷ hex-digit (b % 16) ∷ []
 hex-push [] b = refl

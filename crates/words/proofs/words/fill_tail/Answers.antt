@@ -1,7 +1,7 @@
 use mathlib.Core.List.{append-assoc}
 use borrow.Author.Needs.{needs}
-use Rattle.call_list.proofs.Fills.{placed-more}
-use Rattle.call_list.proofs.words.fill_tail.Needs as need
+use Rattle.words.proofs.Fills.{placed-more}
+use Rattle.words.proofs.words.fill_tail.Needs as need
 
 pub loop-placed-again : need.loop-placed-again
 loop-placed-again c = search (needs, placed-more)

@@ -3,7 +3,7 @@ use mathlib.Core.List.{_++_}
 use Prim.Native.Nat.{_+_}
 use lib.ListN.{replicate}
 use Rattle.std.specs.Of.Vec.{vec-items, vec-len}
-use Rattle.call_list.proofs.words.fill_tail.Given as given
+use Rattle.words.proofs.words.fill_tail.Given as given
 
 abbrev pub Inv-loop-placed : given.InvT-loop-placed
 Inv-loop-placed l =

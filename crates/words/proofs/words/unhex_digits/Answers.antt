@@ -5,8 +5,8 @@ use lib.ListN.{length}
 use borrow.Author.Needs.{needs}
 use Rattle.std.proofs.shelf.Lists.{take-all}
 use Rattle.std.specs.Of.Vec.{vec-items}
-use Rattle.call_list.proofs.Hex.{odd, no-high, no-low, hex-more}
-use Rattle.call_list.proofs.words.unhex_digits.Needs as need
+use Rattle.words.proofs.Hex.{odd, no-high, no-low, hex-more}
+use Rattle.words.proofs.words.unhex_digits.Needs as need
 
 pub returns-then-digits-ne0 : need.returns-then-digits-ne0
 returns-then-digits-ne0 c = odd (c .args .digits .now) (search needs)

@@ -4,8 +4,8 @@ use native.Mathlib.Omega.{arith}
 use borrow.Author.Needs.{needs}
 use Rattle.std.specs.shelf.Text.{allDigits}
 use Rattle.std.proofs.shelf.Numerals.{Numerals, numerals-by-fold, parse-plain, not-in-digits, converted-at-ok, converted-at-err}
-use Rattle.call_list.specs.Words.{read-on}
-use Rattle.call_list.proofs.words.decimal.Needs as need
+use Rattle.words.specs.Words.{read-on}
+use Rattle.words.proofs.words.decimal.Needs as need
 
 own : Numerals (λ ds. allDigits ds ≡ true) (read-on 0)
 own = numerals-by-fold _ (search needs) read-on (search needs)
