@@ -1,3 +1,4 @@
+use endpoint::memory::Memory;
 use index::connection::ConnectionMeta;
 use index::connection::Held;
 use index::target::RouteDatagramTo;
@@ -18,15 +19,15 @@ use table::slot::SlotClone;
 /// The memory that is lent to an endpoint.
 #[derive(Drop)]
 pub struct Storage {
-    pub places: Vec<Place>,
-    pub blocks: Vec<[u8; 1500]>,
-    pub connections: Vec<ConnectionMeta>,
-    pub handles: Vec<u32>,
-    pub slots: Vec<u32>,
-    pub connection_ids_initial: Vec<Slot<ConnectionId, RouteDatagramTo>>,
-    pub connection_ids: Vec<Slot<ConnectionId, u32>>,
-    pub incoming_connection_remotes: Vec<Slot<FourTuple, u32>>,
-    pub connection_reset_tokens: Vec<Slot<RemoteToken, u32>>,
+    places: Vec<Place>,
+    blocks: Vec<[u8; 1500]>,
+    connections: Vec<ConnectionMeta>,
+    handles: Vec<u32>,
+    slots: Vec<u32>,
+    connection_ids_initial: Vec<Slot<ConnectionId, RouteDatagramTo>>,
+    connection_ids: Vec<Slot<ConnectionId, u32>>,
+    incoming_connection_remotes: Vec<Slot<FourTuple, u32>>,
+    connection_reset_tokens: Vec<Slot<RemoteToken, u32>>,
 }
 
 fn no_addresses() -> FourTuple {
@@ -96,5 +97,20 @@ impl Storage {
             incoming_connection_remotes: vec![in heap; Slot::Empty; 256]?,
             connection_reset_tokens: vec![in heap; Slot::Empty; 256]?,
         })
+    }
+
+    /// The memory, lent.
+    pub fn lend(&mut self) -> Memory<'_> {
+        Memory {
+            places: self.places.as_mut_slice(),
+            blocks: self.blocks.as_mut_slice(),
+            connections: self.connections.as_mut_slice(),
+            handles: self.handles.as_mut_slice(),
+            slots: self.slots.as_mut_slice(),
+            connection_ids_initial: self.connection_ids_initial.as_mut_slice(),
+            connection_ids: self.connection_ids.as_mut_slice(),
+            incoming_connection_remotes: self.incoming_connection_remotes.as_mut_slice(),
+            connection_reset_tokens: self.connection_reset_tokens.as_mut_slice(),
+        }
     }
 }

@@ -8,7 +8,6 @@ use call_list::set_up::SetUp;
 use calls::answer::Answer;
 use calls::call::Arrival;
 use calls::call::Call;
-use endpoint::memory::Memory;
 use records::cause::Cause;
 use records::config::Settings;
 use records::incoming::Attempt;
@@ -137,32 +136,11 @@ fn run_list(
     let mut blocks = vec![in heap; [0; 1500]; n]?;
     let mut answers = vec![in heap; Answer::Void; n]?;
     // One place more than there may be is enough to be refused.
-    let Storage {
-        mut places,
-        blocks: mut place_blocks,
-        mut connections,
-        mut handles,
-        mut slots,
-        mut connection_ids_initial,
-        mut connection_ids,
-        mut incoming_connection_remotes,
-        mut connection_reset_tokens,
-    } = Storage::new(heap, w.min(129))?;
-    let memory = Memory {
-        places: places.as_mut_slice(),
-        blocks: place_blocks.as_mut_slice(),
-        connections: connections.as_mut_slice(),
-        handles: handles.as_mut_slice(),
-        slots: slots.as_mut_slice(),
-        connection_ids_initial: connection_ids_initial.as_mut_slice(),
-        connection_ids: connection_ids.as_mut_slice(),
-        incoming_connection_remotes: incoming_connection_remotes.as_mut_slice(),
-        connection_reset_tokens: connection_reset_tokens.as_mut_slice(),
-    };
+    let mut storage = Storage::new(heap, w.min(129))?;
     let mut pool = clear_pool(heap, n);
     let e = run(
         four,
-        memory,
+        storage.lend(),
         settings,
         w,
         number,
