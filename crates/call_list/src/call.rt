@@ -115,14 +115,14 @@ fn datagram(heap: Global, words: &[&str]) -> Result<Option<Datagram>, Unread> {
     }))
 }
 
-/// A `handle` line without bytes: N is no datagram's length, or TAIL is longer than N.
-fn no_bytes(n: u64) -> Result<Line, Unread>
+/// A `handle` line without bytes. TAIL is too long, unless N or FIRST is no length: then the line is refused for that.
+fn no_bytes(n: u64, first: u64) -> Result<Line, Unread>
     ensures { λ r. ⌜ made r (λ l. l ≡ Malformed) ⌝ }
 {
-    match n {
-        1..=1500 => Err(no_word(Field::Tail)),
-        _ => Ok(Line::Malformed),
+    if n > 0 && n <= 1500 && first > 0 && first <= n {
+        return Err(no_word(Field::Tail));
     }
+    Ok(Line::Malformed)
 }
 
 /// A `handle` line: the datagram's bytes go behind the others.
@@ -141,7 +141,7 @@ fn handle(heap: Global, words: &[&str], small: bool, all: &mut Vec<u8>) -> Resul
         return Ok(Line::Malformed);
     };
     if n > LONGEST || tail.len() as u64 > n {
-        return no_bytes(n);
+        return no_bytes(n, datagram.first_len as u64);
     }
     let at = all.len();
     let len = n as usize;

@@ -2,7 +2,7 @@ ghost use mathlib.Core.Path.{_≡_};
 ghost use Rattle.records.specs.Causes.{cause-number};
 
 /// Why a call refuses, drops or fails.
-#[derive(Clone, Copy)]
+#[derive(Clone, Copy, PartialEq, Eq)]
 pub enum Cause {
     Malformed,
     SetUp,

@@ -1,8 +1,10 @@
 use crate::address::FourTuple;
+use crate::address::FourTuplePartialEq;
 use crate::shared::ConnectionId;
+use crate::shared::ConnectionIdPartialEq;
 
 /// The kind of a datagram's first packet.
-#[derive(Clone, Copy)]
+#[derive(Clone, Copy, PartialEq, Eq)]
 pub enum Kind {
     Initial,
     Handshake,
@@ -13,7 +15,7 @@ pub enum Kind {
 }
 
 /// A received datagram, its bytes apart.
-#[derive(Clone, Copy)]
+#[derive(Clone, Copy, PartialEq, Eq)]
 pub struct Datagram {
     /// When it came, in milliseconds.
     pub time: u64,
@@ -31,14 +33,14 @@ pub struct Datagram {
 }
 
 /// A datagram that waits, its bytes apart, and how many it has.
-#[derive(Clone, Copy)]
+#[derive(Clone, Copy, PartialEq, Eq)]
 pub struct Kept {
     pub datagram: Datagram,
     pub len: usize,
 }
 
 /// A close to be sent: the host encodes it.
-#[derive(Clone, Copy)]
+#[derive(Clone, Copy, PartialEq, Eq)]
 pub struct Close {
     pub code: u64,
     pub version: u32,

@@ -5,7 +5,7 @@ ghost use lib.ListN.{length, getD};
 mod ops;
 
 /// A connection identifier: 0 to 20 bytes, and zeros past its length.
-#[derive(Clone, Copy)]
+#[derive(Clone, Copy, PartialEq, Eq)]
 pub struct ConnectionId {
     len: u8,
     bytes: [u8; 20],
