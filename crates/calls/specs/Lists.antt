@@ -29,6 +29,7 @@ arrived bytes a = datagram-of (a .datagram) (take (a .len) (drop (a .at) bytes))
 abbrev pub room-of : Arrival → ℕ
 room-of a = cond (a .small) 1499 1500
 
+-- a call of a list, its datagram with its bytes
 abbrev pub call-of : List ℕ → call.Call → runs.Call
 call-of bytes (Handle a) = runs.handles (arrived bytes a) (room-of a)
 call-of bytes (Ignore b) = runs.ignores (attempt-of b)
@@ -37,7 +38,7 @@ call-of bytes (Ignore b) = runs.ignores (attempt-of b)
 abbrev pub reset-of : Datagram → List ℕ → records.Answer
 reset-of d bs = records.reset (d .addresses) (d .dst) (take (length bs - 16) bs) (drop (length bs - 16) bs)
 
--- the datagram that a call brings, where it brings one
+-- what an answer to a call says, a reset with the bytes of the call's block; where nothing was called for want of the attempt, it is refused by 5
 abbrev pub answer-to : List ℕ → call.Call → List ℕ → answer.Answer → records.Answer
 answer-to bytes c block (says.Refused n) = records.refused (cause-number n)
 answer-to bytes c block (says.Delivered h) = records.delivered h

@@ -21,6 +21,7 @@ use Rattle.endpoint.specs.State.{state-of, Frame}
 abbrev pub first-brought : Endpoint → Attempt → Option Datagram
 first-brought e a = cond (eqb (a .number) (e .number)) (first-of (entries (e .places)) (a .slot)) None
 
+-- what `ignore` answers: the attempt is spent, or why it is not
 abbrev pub ignored-of : {A : Type 0} → Result A HandedBack → Answer
 ignored-of (Ok x) = ignored
 ignored-of (Err b) = refused (cause-number (b .cause))

@@ -18,6 +18,7 @@ pub record Sizes : Type 0 where
   pub remotes : ℕ
   pub tokens : ℕ
 
+-- the sizes of this memory
 abbrev pub sizes-of : Memory → Sizes
 sizes-of m = record {
   places = length (now (m .places));

@@ -18,6 +18,7 @@ use Rattle.records.specs.declared.address.IpAddr.the-variants as ip
 use Rattle.records.specs.declared.address.FourTuple.{FourTuple}
 use Rattle.records.specs.declared.token.RemoteToken.{RemoteToken}
 
+-- the same address of four bytes and the same port
 abbrev pub same-v4 : SocketAddrV4 → SocketAddrV4 → Bool
 same-v4 a b = eqb (a .port) (b .port) && sameBytes (a .ip) (b .ip)
 
@@ -32,12 +33,14 @@ same-remote (socket.V4 a) (socket.V6 b) = false
 same-remote (socket.V6 a) (socket.V4 b) = false
 same-remote (socket.V6 a) (socket.V6 b) = same-v6 a b
 
+-- the same address without a port
 abbrev pub same-ip : IpAddr → IpAddr → Bool
 same-ip (ip.V4 a) (ip.V4 b) = sameBytes (a .octets) (b .octets)
 same-ip (ip.V4 a) (ip.V6 b) = false
 same-ip (ip.V6 a) (ip.V4 b) = false
 same-ip (ip.V6 a) (ip.V6 b) = sameBytes (a .octets) (b .octets)
 
+-- the same local address, or none on either side
 abbrev pub same-local : Option IpAddr → Option IpAddr → Bool
 same-local None None = true
 same-local None (Some b) = false
@@ -60,10 +63,12 @@ mixed h b = (bitXor h b * 16777619) % 2 ^ 32
 abbrev pub hash-of : List ℕ → ℕ
 hash-of bs = folded mixed 2166136261 bs
 
+-- the hash of a peer: its address and port
 abbrev pub hash-remote : SocketAddr → ℕ
 hash-remote (socket.V4 a) = mixed (hash-of (a .ip)) (a .port)
 hash-remote (socket.V6 a) = mixed (hash-of (a .ip)) (a .port)
 
+-- the hash of an identifier: all its bytes, zeros included
 abbrev pub hash-id : ConnectionId → ℕ
 hash-id x = hash-of (x .bytes)
 
@@ -71,5 +76,6 @@ hash-id x = hash-of (x .bytes)
 abbrev pub hash-pair : FourTuple → ℕ
 hash-pair a = hash-remote (a .remote)
 
+-- the hash of a token with its peer: the token alone
 abbrev pub hash-sender : RemoteToken → ℕ
 hash-sender r = hash-of (r .token .bytes)

@@ -13,6 +13,7 @@ use Rattle.records.specs.declared.packet.Kind.{Kind}
 use Rattle.records.specs.declared.packet.Kind.the-variants.{Initial, Handshake, ZeroRtt, Short, Retry, VersionNegotiate}
 use Rattle.records.specs.declared.packet.Datagram as code
 
+-- an Initial packet
 abbrev pub is-initial : Kind → Bool
 is-initial Initial = true
 is-initial Handshake = false
@@ -21,6 +22,7 @@ is-initial Short = false
 is-initial Retry = false
 is-initial VersionNegotiate = false
 
+-- a packet with a short header
 abbrev pub is-short : Kind → Bool
 is-short Initial = false
 is-short Handshake = false
@@ -38,6 +40,7 @@ is-early Short = false
 is-early Retry = false
 is-early VersionNegotiate = false
 
+-- a datagram: its bytes, what its first packet says, where it came from and when
 pub record Datagram : Type 0 where
   pub bytes : List ℕ
   pub first-length : ℕ
@@ -65,6 +68,7 @@ datagram-of d bs = record {
   time = d .time;
 }
 
+-- how many bytes it has
 abbrev pub size : Datagram → ℕ
 size d = length (d .bytes)
 
@@ -76,6 +80,7 @@ last-16 bs = drop (length bs - 16) bs
 abbrev pub sender-of : Datagram → RemoteToken
 sender-of d = record { remote = d .addresses .remote; token = record { bytes = last-16 (d .bytes) } }
 
+-- an ECN mark is 1 to 3, or there is none
 abbrev pub ecn-fits : Option ℕ → Bool
 ecn-fits None = true
 ecn-fits (Some m) = leb 1 m && leb m 3
