@@ -27,7 +27,7 @@ ghost use Rattle.call_list.specs.Lines.{Within};
 pub enum Line {
     Call(Call),
     /// Its datagram cannot be brought, as an identifier has more than 20 bytes, or it has more than 65,535: it is
-    /// answered `refused 1`, and nothing is called.
+    /// answered `refused 1`, as the input test comes before all others.
     Malformed,
 }
 

@@ -89,16 +89,17 @@ fn calls_of(heap: Global, lines: &[Line]) -> Result<Vec<Call>, AllocError> {
     Ok(all)
 }
 
-// A pool without attempts; without memory it is shorter, and the run is refused.
-fn clear_pool(heap: Global, n: usize) -> Vec<Option<Attempt>> {
+// A pool without attempts.
+fn clear_pool(heap: Global, n: usize) -> Result<Vec<Option<Attempt>>, AllocError> {
     let mut pool = Vec::new(heap);
     for _ in 0..n {
         if let Err(refused) = pool.push(None) {
             end(refused.value);
-            break;
+            end_pool(pool);
+            return Err(AllocError);
         }
     }
-    pool
+    Ok(pool)
 }
 
 fn end(attempt: Option<Attempt>) {
@@ -137,7 +138,7 @@ fn run_list(
     let mut answers = vec![in heap; Answer::Void; n]?;
     // One place more than there may be is enough to be refused.
     let mut storage = Storage::new(heap, w.min(129))?;
-    let mut pool = clear_pool(heap, n);
+    let mut pool = clear_pool(heap, n)?;
     let e = run(
         four,
         storage.lend(),
