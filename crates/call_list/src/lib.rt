@@ -1,4 +1,5 @@
 //! Lists of calls as text: a set-up and its calls are read, and answers are written.
+#![tactic(auto)]
 mod address;
 pub mod answer;
 mod call;

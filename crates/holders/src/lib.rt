@@ -1,2 +1,3 @@
 //! What connections hold, and the entries that lead to them.
+#![tactic(auto)]
 pub mod entries;

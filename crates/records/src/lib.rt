@@ -1,4 +1,6 @@
 //! The records that the endpoint's calls take and give.
+#![tactic(auto)]
+
 pub mod address;
 pub mod bytes;
 pub mod cause;

@@ -1,3 +1,4 @@
+#![tactic(auto)]
 mod memory;
 mod session;
 

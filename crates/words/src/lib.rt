@@ -1,2 +1,4 @@
 //! The words of call lists: bytes, numbers and filled datagrams.
+#![tactic(auto)]
+
 pub mod words;

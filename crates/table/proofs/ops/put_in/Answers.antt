@@ -17,15 +17,15 @@ returns-then-n-eq0 g c =
     let s = c.args.slots.now in
     record {
       reached = λ h. h;
-      done = λ h. (refl {a = s}, lookup_absent g.K.Key.same s c.args.k (c.in-default.ensures h), used_full s (λ j l. absurd (omega arith)));
+      done = λ h. (refl {a = s}, lookup_absent g.K.Key.same s c.args.k (c.in_default.ensures h), used_full s (λ j l. absurd (omega arith)));
     }
 
 pub returns-in-Some-vacant : goal.returns-in-Some-vacant
 returns-in-Some-vacant g c =
     let s = c.args.slots.now in
     let P : ℕ → Type 0 = λ o. Vacant s o (Some c.in-Some-vacant.p) in
-    let vac = subst P c.home-of.ensures.is c.in-Some-vacant.ensures in
-    let w = put_new g.K.Key.same g.met.K.Key.exact g.met.K.Key.alike Full g.K.Key.code s c.args.k c.args.v c.in-Some-vacant.p c.in-default.ensures vac in
+    let vac = subst P c.home_of.ensures.is c.in-Some-vacant.ensures in
+    let w = put_new g.K.Key.same g.met.K.Key.exact g.met.K.Key.alike Full g.K.Key.code s c.args.k c.args.v c.in-Some-vacant.p c.in_default.ensures vac in
     record { reached = λ h. (w h).0; done = λ h. (w h).1 }
 
 pub returns-in-None : goal.returns-in-None
@@ -34,6 +34,6 @@ returns-in-None g c =
       reached = λ h. h;
       done =
           λ h.
-          put_full g.K.Key.same g.met.K.Key.exact g.met.K.Key.alike {E = Full} c.args.slots.now c.args.k c.args.v c.home-of.result (record {})
-          c.home-of.ensures.below (c.in-default.ensures h) c.in-None.ensures;
+          put_full g.K.Key.same g.met.K.Key.exact g.met.K.Key.alike {E = Full} c.args.slots.now c.args.k c.args.v c.home_of.result (record {})
+          c.home_of.ensures.below (c.in_default.ensures h) c.in-None.ensures;
     }

@@ -19,8 +19,8 @@ loop-turn-preserved g c =
     let il : at < length t = omega arith in
     let al : around (length t) at 1 < length t = around_less (length t) at 1 il (omega arith) in
     let af : c.next-after.result ≡ around (length t) at 1 = c.next-after.ensures.is ∙ ap (λ n. around n at 1) (sym lg) in
-    let fr = sym (get_or_read t at c.index-slots-at.result il c.index-slots-at.is Empty) ∙ c.is-freed.ensures c.if-not-is-freed.false in
-    let em = sym (get_or_read t c.next-after.result c.index-slots-after.result (omega arith) c.index-slots-after.is Empty) ∙ c.is-empty.ensures c.if-not-is-empty.false in (
+    let fr = sym (get_or_read t at c.index-slots-at.result il c.index-slots-at.is Empty) ∙ c.is_freed.ensures c.if-not-is_freed.false in
+    let em = sym (get_or_read t c.next-after.result c.index-slots-after.result (omega arith) c.index-slots-after.is Empty) ∙ c.is_empty.ensures c.if-not-is_empty.false in (
       c.prev-at.ensures,
       λ h. tidied_more g.K.Key.same g.met.K.Key.exact g.met.K.Key.alike g.K.Key.code s t at il (inv.1 h) fr (ap (λ i. get_or t i Empty) (sym af) ∙ em),
     )

@@ -11,5 +11,5 @@ loop-d-preserved g c =
     let h : c.loop-d.d < n = omega arith in
     let e = c.next-at.ensures.is ∙ ap (λ x. around n x 1) c.loop-d.invariant.1 ∙ around_more n c.args.start c.loop-d.d c.requires h in
     let r = get_or_read c.args.slots.now c.loop-d.at c.index-slots-at.result c.loop-d.invariant.0 c.index-slots-at.is Empty in
-    let f = c.if-is-stop.ensures in
+    let f = c.if-is_stop.ensures in
     (c.next-at.ensures.below, e, below_more _ _ c.loop-d.invariant.2 (cc))

@@ -6,11 +6,11 @@ use Rattle.words.proofs.words.unhex_digits.Goals as goal
 pub returns-then-digits-ne0 : goal.returns-then-digits-ne0
 returns-then-digits-ne0 c = odd c.args.digits.now (search rules)
 
-pub returns-in-default : goal.returns-in-default
-returns-in-default c = no_high c.args.digits.now c.loop-i.i _ (omega arith) refl c.in-default.ensures
+pub returns-in_default : goal.returns-in_default
+returns-in_default c = no_high c.args.digits.now c.loop-i.i _ (omega arith) refl c.in_default.ensures
 
-pub returns-in-default-nibble : goal.returns-in-default-nibble
-returns-in-default-nibble c = no_low c.args.digits.now c.loop-i.i _ (omega arith) refl c.in-default-nibble.ensures
+pub returns-in_default-nibble : goal.returns-in_default-nibble
+returns-in_default-nibble c = no_low c.args.digits.now c.loop-i.i _ (omega arith) refl c.in_default-nibble.ensures
 
 pub loop-i-preserved : goal.loop-i-preserved
 loop-i-preserved c =
@@ -18,7 +18,7 @@ loop-i-preserved c =
     let low = c.in-Some-nibble.ensures in
     let more = hex_more c.args.digits.now (vec_items c.loop-i.bytes) c.loop-i.i c.in-Some.high c.in-Some-nibble.low
     c.loop-i.invariant (omega arith) high.0 low.0 high.1 low.1 in
-    rw c.in-ok-push.ensures.items more
+    rw c.in_ok-push.ensures.items more
 
 pub returns : goal.returns
 returns c =
