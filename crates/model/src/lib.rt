@@ -1,5 +1,6 @@
 //! What an endpoint is: its state, its five calls, and what it keeps to over whole lists of calls.
 #![tactic(auto)]
+
 ghost use Rattle.std.specs.Prelude.{◌≡◌, ℕ, ◌<◌, List, length};
 ghost use Rattle.model.specs.Records.{Id, Token, Datagram, Incoming};
 ghost use Rattle.model.specs.Endpoint.{State, Config, Supply};

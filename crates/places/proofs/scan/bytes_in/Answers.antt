@@ -7,8 +7,8 @@ use Rattle.places.proofs.Views.{light_at}
 use Rattle.places.proofs.scan.bytes_in.Goals as goal
 use Rattle.places.proofs.scan.bytes_in.Goals.{then-p-slot, else-p-slot}
 
-pub overflow-add-sum : goal.overflow-add-sum
-overflow-add-sum c =
+pub overflow_add-sum : goal.overflow_add-sum
+overflow_add-sum c =
     let small = light_at c.args.items.now c.loop-p.p-index c.p-item.result (omega arith) c.p-item.is c.requires.short in
     omega (arith, c.requires.few, c.weight-sum.ensures)
 

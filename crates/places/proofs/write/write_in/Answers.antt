@@ -7,8 +7,8 @@ use Rattle.places.proofs.Writes.{writing_no, writing_yes, writing_all}
 use Rattle.places.proofs.write.write_in.Goals as goal
 use Rattle.places.proofs.write.write_in.Goals.{then-p-slot, else-p-slot}
 
-pub copy-front-requires : goal.copy-front-requires
-copy-front-requires c =
+pub copy_front-requires : goal.copy_front-requires
+copy_front-requires c =
     let ps = c.args.items.now in
     let bs = c.args.blocks.now in
     let i = c.loop-p.p-index in
@@ -17,8 +17,8 @@ copy-front-requires c =
     let s = fits_small bs p (none_at (unfit bs) ps i p lt c.p-item.is c.requires.fitting) in
     (block_at (length bs) ps i p lt c.p-item.is c.requires.within, s, omega (arith, c.loop-p.invariant.small, c.requires.wide, c.loop-p.auto.bytes))
 
-pub overflow-add-at : goal.overflow-add-at
-overflow-add-at c =
+pub overflow_add-at : goal.overflow_add-at
+overflow_add-at c =
     let ps = c.args.items.now in
     let bs = c.args.blocks.now in
     let i = c.loop-p.p-index in
@@ -42,7 +42,7 @@ loop-p-preserved c =
       | then-p-slot w ↦
           let k = ap (λ n. set c.loop-p.records c.loop-p.count (record { datagram = p.kept.datagram; len = n })) (fits_size bs p u) in
           rw (w.records-is, w.bytes-is, w.count-is, w.at-is)
-          (writing_yes x x _ _ _ c.loop-p.invariant le at (eq-eqb _ _ w.if-p-slot.true) (fits_size bs p u) (fits_small bs p u) (omega (arith, c.requires.room)) k w.copy-front.ensures)
+          (writing_yes x x _ _ _ c.loop-p.invariant le at (eq-eqb _ _ w.if-p-slot.true) (fits_size bs p u) (fits_small bs p u) (omega (arith, c.requires.room)) k w.copy_front.ensures)
       | else-p-slot w ↦
           rw (w.records-is, w.bytes-is, w.count-is, w.at-is)
           (writing_no x x c.loop-p.invariant le at (ne_eqb _ _ w.if-p-slot.false))

@@ -2,8 +2,8 @@ use Rattle.std.proofs.Common.{arith}
 use Rattle.places.proofs.Views.{lent, how_many}
 use Rattle.places.proofs.places.Places.write.Goals as goal
 
-pub write-in-requires : goal.write-in-requires
-write-in-requires c =
+pub write_in-requires : goal.write_in-requires
+write_in-requires c =
     let w = c.args.self.now in
     let s = c.requires.sound in
     let l = lent w.blocks.items.now c.all.result.now w.records.items.now c.live.result.now w.records.used c.all.ensures c.live.ensures s.1 s.3 s.4 in
