@@ -11,7 +11,7 @@ use Rattle.model.specs.Words.{Among}
 
 module _ {K X : Type 0} (e : K → K → Bool) (is : (x y : K) → Decides (e x y) (x ≡ y)) (f : K → Option X) (k : K) (v : Option X) where
   pub up_read : (q : K) (P : Option X → Type 0) → (q ≡ k → P v) → ((q ≡ k → ⊥) → P (f q)) → P (update e f k v q)
-  up_read q P here there = cond_both (e q k) v (f q) P (λ t. here ((is q k).0 t)) (λ t. there (λ s. both_ways (e q k) t ((is q k).1 s)))
+  up_read q P here there = cond_both (e k q) v (f q) P (λ t. here (sym ((is k q).0 t))) (λ t. there (λ s. both_ways (e k q) t ((is k q).1 (sym s))))
 
 module _ {X : Type 0} (f : Id → Option X) where
   pub put_read : (x : Id) (v : Option X) (q : Id) (P : Option X → Type 0) → (empty x ≡ false → q ≡ x → P v) → ((empty x ≡ false → q ≡ x → ⊥) → P (f q)) → P (put f x v q)

@@ -50,7 +50,7 @@ put_two : {A : Type 0} (f f' : Id → Option A) (x : Id) (v v' : Option A) (q : 
     ((empty x ≡ false → q ≡ x → ⊥) → P (f q) (f' q)) → P (put f x v q) (put f' x v' q)
 put_two f f' x v v' q P here there =
     cond_two (empty x) (f q) (update same_id f x v q) (f' q) (update same_id f' x v' q) P (λ t. there (λ u _. both_ways (empty x) u t))
-    (λ t. cond_two (same_id q x) v (f q) v' (f' q) P (λ z. here t ((same_id_decides q x).0 z)) (λ z. there (λ _ y. both_ways (same_id q x) z ((same_id_decides q x).1 y))))
+    (λ t. cond_two (same_id x q) v (f q) v' (f' q) P (λ z. here t (sym ((same_id_decides x q).0 z))) (λ z. there (λ _ y. both_ways (same_id x q) z ((same_id_decides x q).1 (sym y)))))
 
 module _ (doomed : ℕ → Bool) {f g f' g' : ℕ → Option ℕ} where
   entries_more : ((j s : ℕ) → f j ≡ Some s → f' j ≡ Some s) → ((j s : ℕ) → g j ≡ Some s → g' j ≡ Some s) → (o p : Option Target) → Entries doomed f g o p → Entries doomed f' g' o p
@@ -319,7 +319,7 @@ module _ (doomed : ℕ → Bool) (token : Id → Token) (c : Config) (few : c.se
               (λ _ _. (n, f_new slot₁, g_new slot₂, e))
               (λ _. entries_more doomed (f_more slot₁) (g_more slot₂) (s.initial x) (initial₂ x) (R.entries x));
           match = both n (f_new slot₁) (g_new slot₂) e refl refl (match_more doomed (f_more slot₁) (g_more slot₂) R.match);
-          slots = λ k z. cond_two (eqb k n) (Some slot₁) (f k) (Some slot₂) (g k) (Alike doomed) (λ _. tt) (λ _. R.slots k z);
+          slots = λ k z. cond_two (eqb n k) (Some slot₁) (f k) (Some slot₂) (g k) (Alike doomed) (λ _. tt) (λ _. R.slots k z);
         };
       },
     )

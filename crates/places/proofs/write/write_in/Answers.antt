@@ -15,7 +15,11 @@ copy_front-requires c =
     let p = c.p-item.result in
     let lt : i < length ps = omega arith in
     let s = fits_small bs p (none_at (unfit bs) ps i p lt c.p-item.is c.requires.fitting) in
-    (block_at (length bs) ps i p lt c.p-item.is c.requires.within, s, omega (arith, c.loop-p.invariant.small, c.requires.wide, c.loop-p.auto.bytes))
+    record {
+      b_in_bounds = block_at (length bs) ps i p lt c.p-item.is c.requires.within;
+      n_bound = s;
+      n_in_bounds = omega (arith, c.loop-p.invariant.small, c.requires.wide, c.loop-p.auto.bytes);
+    }
 
 pub overflow_add-at : goal.overflow_add-at
 overflow_add-at c =

@@ -12,7 +12,7 @@ lay-requires c =
     let w = c.args.self.now in
     let n = how_many w.blocks.items.now w.records.items.now w.records.used c.requires.sound.1 in
     let b = within_block (length w.blocks.items.now) w.records.items.now w.records.used (omega (arith, c.requires.room)) c.requires.sound.3 in
-    (omega (arith, c.free_block-block.ensures, b), c.requires.short)
+    record { b_in_bounds = omega (arith, c.free_block-block.ensures, b); bytes_len_bound = c.requires.short }
 
 pub push-requires : goal.push-requires
 push-requires c =

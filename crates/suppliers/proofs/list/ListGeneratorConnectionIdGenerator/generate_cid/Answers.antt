@@ -10,5 +10,5 @@ returns c =
     let few : s.count ≤ length s.ids = omega (arith, s.wide, s.few) in
     record {
       drawn = in_turn_here s.ids s.count s.at _ few s.within;
-      after = ap (in_turn (take s.count s.ids)) c.place-after-self.ensures ∙ in_turn_after (take s.count s.ids) s.at s.count (sym (length-take-le s.count s.ids few));
+      after = ap (in_turn (take s.count s.ids)) c.place_after-self.ensures ∙ in_turn_after (take s.count s.ids) s.at s.count (sym (length-take-le s.count s.ids few));
     }

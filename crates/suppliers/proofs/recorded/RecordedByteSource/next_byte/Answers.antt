@@ -6,4 +6,4 @@ pub returns-else-self-len : goal.returns-else-self-len
 returns-else-self-len c =
     let v = c.args.self.now.bytes in
     let h : length (vec_items v) ≤ c.args.self.now.at = omega (arith, v.ok.0, c.if-self-len.false) in
-    record { drawn = c.byte-at-b.ensures.past (omega (arith, c.as-slice.ensures.len)) ∙ sym (past_end _ _ h 0); after = end_stays _ _ h }
+    record { drawn = c.byte_at-b.ensures.past (omega (arith, c.as_slice.ensures.len)) ∙ sym (past_end _ _ h 0); after = end_stays _ _ h }
