@@ -1,4 +1,5 @@
 //! Lists of calls and their answers, as plain values.
 #![tactic(auto)]
+
 pub mod answer;
 pub mod call;

@@ -1,3 +1,4 @@
 //! What connections hold, and the entries that lead to them.
 #![tactic(auto)]
+
 pub mod entries;

@@ -14,8 +14,8 @@ const FIXED_PADDING_LEN: usize = 26;
 pub fn padding_len<S: Supplies>(supplies: &mut S, n: usize) -> usize
     requires least { 22 ≤ n }
     requires most { n ≤ 1500 }
-    ensures value { result ≡ padding (all supplies.old).source n }
-    ensures after { all supplies.new ≡ spent 0 (picked n) (all supplies.old) }
+    ensures value { result ≡ padding (S.all supplies.old).source n }
+    ensures after { S.all supplies.new ≡ spent 0 (picked n) (S.all supplies.old) }
     ensures low { 5 ≤ result }
     ensures high { result + 17 ≤ n }
 {
@@ -39,7 +39,7 @@ fn mark(out: &mut [u8])
 /// Writes the first 16 bytes of an identifier's signature.
 fn write_token<S: Supplies>(supplies: &S, cid: &ConnectionId, out: &mut [u8], at: usize)
     requires { at + 16 ≤ length out.old }
-    ensures { out.new ≡ take at out.old ++ (token_of (all supplies.now).signer cid.now ++ drop (at + 16) out.old) }
+    ensures { out.new ≡ take at out.old ++ (token_of (S.all supplies.now).signer cid.now ++ drop (at + 16) out.old) }
 {
     let signature = supplies.sign(cid.as_bytes());
     out[at..at + 16].copy_from_slice(&signature[0..16]);
@@ -55,9 +55,9 @@ pub fn write_reset<S: Supplies>(
     requires least { 22 ≤ n }
     requires most { n ≤ 1500 }
     requires room { 1500 ≤ length out.old }
-    ensures value { result ≡ padding (all supplies.old).source n + 16 }
-    ensures bytes { out.new ≡ over (reset_bytes (all supplies.old) cid.now n) out.old }
-    ensures after { all supplies.new ≡ spent 0 (picked n + padding (all supplies.old).source n) (all supplies.old) }
+    ensures value { result ≡ padding (S.all supplies.old).source n + 16 }
+    ensures bytes { out.new ≡ over (reset_bytes (S.all supplies.old) cid.now n) out.old }
+    ensures after { S.all supplies.new ≡ spent 0 (picked n + padding (S.all supplies.old).source n) (S.all supplies.old) }
     ensures high { result + 1 ≤ n }
 {
     let padding = padding_len(supplies, n);

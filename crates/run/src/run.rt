@@ -32,8 +32,8 @@ fn run_all<S: Supplies>(
     requires new { state_of e.old ≡ new_state }
     requires room { room_fits (length calls.now) pool.old (length blocks.old) (length answers.old) ≡ true }
     ensures ready { e.new.ready ≡ true }
-    ensures ran { (E : Modelled) → Built E e.old.settings (width e.old.places) e.old.number (all supplies.old) → Ran E bytes.now calls.now (length calls.now) (all supplies.old) (all supplies.new) pool.new blocks.old blocks.new answers.old answers.new }
-    ensures state { (E : Modelled) → Built E e.old.settings (width e.old.places) e.old.number (all supplies.old) → state_of e.new ≡ (world_so E bytes.now calls.now (length calls.now)).state }
+    ensures ran { (E : Modelled) → Built E e.old.settings (width e.old.places) e.old.number (S.all supplies.old) → Ran E bytes.now calls.now (length calls.now) (S.all supplies.old) (S.all supplies.new) pool.new blocks.old blocks.new answers.old answers.new }
+    ensures state { (E : Modelled) → Built E e.old.settings (width e.old.places) e.old.number (S.all supplies.old) → state_of e.new ≡ (world_so E bytes.now calls.now (length calls.now)).state }
 {
     for i in 0..calls.len() {
         let answer = step(e, supplies, pool, &mut blocks[i], bytes, i, calls[i]);
@@ -54,8 +54,8 @@ fn run_ready<S: Supplies>(
     requires new { e.old.ready ≡ true → state_of e.old ≡ new_state }
     requires room { e.old.ready ≡ true → room_fits (length calls.now) pool.old (length blocks.old) (length answers.old) ≡ true }
     ensures ready { e.new.ready ≡ e.old.ready }
-    ensures refused { e.old.ready ≡ false → (all supplies.new ≡ all supplies.old) × (pool.new ≡ pool.old) × (blocks.new ≡ blocks.old) × (answers.new ≡ answers.old) }
-    ensures ran { e.old.ready ≡ true → (E : Modelled) → Built E e.old.settings (width e.old.places) e.old.number (all supplies.old) → Ran E bytes.now calls.now (length calls.now) (all supplies.old) (all supplies.new) pool.new blocks.old blocks.new answers.old answers.new × (state_of e.new ≡ (world_so E bytes.now calls.now (length calls.now)).state) }
+    ensures refused { e.old.ready ≡ false → (S.all supplies.new ≡ S.all supplies.old) × (pool.new ≡ pool.old) × (blocks.new ≡ blocks.old) × (answers.new ≡ answers.old) }
+    ensures ran { e.old.ready ≡ true → (E : Modelled) → Built E e.old.settings (width e.old.places) e.old.number (S.all supplies.old) → Ran E bytes.now calls.now (length calls.now) (S.all supplies.old) (S.all supplies.new) pool.new blocks.old blocks.new answers.old answers.new × (state_of e.new ≡ (world_so E bytes.now calls.now (length calls.now)).state) }
 {
     if !e.is_ready() {
         return;
@@ -93,8 +93,8 @@ pub fn run<'a, S: Supplies>(
     answers: &mut [Answer],
 ) -> Endpoint<'a>
     ensures taken { result.ready ≡ (room_fits (length calls.now) pool.old (length blocks.old) (length answers.old) && set_up_fits settings.max_incoming w (sizes_of memory.entry)) }
-    ensures refused { result.ready ≡ false → (all supplies.new ≡ all supplies.old) × (pool.new ≡ pool.old) × (blocks.new ≡ blocks.old) × (answers.new ≡ answers.old) }
-    ensures ran { result.ready ≡ true → (E : Modelled) × Built E settings w number (all supplies.old) × Ran E bytes.now calls.now (length calls.now) (all supplies.old) (all supplies.new) pool.new blocks.old blocks.new answers.old answers.new × (state_of result ≡ (world_so E bytes.now calls.now (length calls.now)).state) × EndpointLaws E (calls_so bytes.now calls.now (length calls.now)) }
+    ensures refused { result.ready ≡ false → (S.all supplies.new ≡ S.all supplies.old) × (pool.new ≡ pool.old) × (blocks.new ≡ blocks.old) × (answers.new ≡ answers.old) }
+    ensures ran { result.ready ≡ true → (E : Modelled) × Built E settings w number (S.all supplies.old) × Ran E bytes.now calls.now (length calls.now) (S.all supplies.old) (S.all supplies.new) pool.new blocks.old blocks.new answers.old answers.new × (state_of result ≡ (world_so E bytes.now calls.now (length calls.now)).state) × EndpointLaws E (calls_so bytes.now calls.now (length calls.now)) }
 {
     let fits = room_fits(calls.len(), pool, blocks.len(), answers.len());
     let mut e = Endpoint::new(memory, settings, places_for(fits, w), number);

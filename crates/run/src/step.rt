@@ -78,7 +78,7 @@ fn handle_at<S: Supplies>(
     requires ready { e.old.ready ≡ true }
     requires within { i < length pool.old }
     requires free { slice_index_or pool.old i None ≡ None }
-    ensures stepped { (slots : ℕ → OptionOf ℕ) → Holds e.old.number pool.old slots → Stepped e.old e.new (all supplies.old) (all supplies.new) pool.old pool.new block.old block.new bytes.now i (Handle arrival) slots result (outcome e.old (all supplies.old) slots (call_of bytes.now (Handle arrival))) }
+    ensures stepped { (slots : ℕ → OptionOf ℕ) → Holds e.old.number pool.old slots → Stepped e.old e.new (S.all supplies.old) (S.all supplies.new) pool.old pool.new block.old block.new bytes.now i (Handle arrival) slots result (outcome e.old (S.all supplies.old) slots (call_of bytes.now (Handle arrival))) }
     ensures later { EmptyPast i pool.old pool.new }
     ensures frame { Frame e.old e.new }
 {
@@ -158,7 +158,7 @@ pub(crate) fn step<S: Supplies>(
     requires ready { e.old.ready ≡ true }
     requires within { i < length pool.old }
     requires free { slice_index_or pool.old i None ≡ None }
-    ensures stepped { (slots : ℕ → OptionOf ℕ) → Holds e.old.number pool.old slots → Stepped e.old e.new (all supplies.old) (all supplies.new) pool.old pool.new block.old block.new bytes.now i call slots result (outcome e.old (all supplies.old) slots (call_of bytes.now call)) }
+    ensures stepped { (slots : ℕ → OptionOf ℕ) → Holds e.old.number pool.old slots → Stepped e.old e.new (S.all supplies.old) (S.all supplies.new) pool.old pool.new block.old block.new bytes.now i call slots result (outcome e.old (S.all supplies.old) slots (call_of bytes.now call)) }
     ensures later { EmptyPast i pool.old pool.new }
     ensures frame { Frame e.old e.new }
 {

@@ -1,5 +1,6 @@
 //! What the datagrams in order of arrival say of the waiting attempts. It has theorems alone.
 #![tactic(auto)]
+
 ghost use Rattle.waiting.specs.Laws.{Adds, AddsProper, Keeps, KeepsProper, Totals, Parts, PlacesUsed, Counts, Finds};
 
 /// The laws that tie the datagrams in order of arrival to the waiting attempts.

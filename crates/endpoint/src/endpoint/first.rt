@@ -24,8 +24,8 @@ const INVALID_TOKEN: u64 = 0x0b;
 
 /// Puts a close to a datagram's sender into the lent place; its source is a drawn identifier that is recorded nowhere.
 fn initial_close<S: Supplies>(supplies: &mut S, code: u64, datagram: &Datagram, close: &mut Close)
-    ensures close { (bs : List ℕ) → close.new ≡ close_to (supply_of (all supplies.old)) 0 code (datagram_of datagram.now bs) }
-    ensures after { all supplies.new ≡ spent 1 0 (all supplies.old) }
+    ensures close { (bs : List ℕ) → close.new ≡ close_to (supply_of (S.all supplies.old)) 0 code (datagram_of datagram.now bs) }
+    ensures after { S.all supplies.new ≡ spent 1 0 (S.all supplies.old) }
 {
     let src_cid = supplies.generate_cid();
     *close = Close {
@@ -46,7 +46,7 @@ impl<'a> Endpoint<'a> {
         bytes: &[u8],
     ) -> Option<Cause>
         requires { self.now.ready ≡ true }
-        ensures { option_map cause_number result ≡ first_cause (first_causes (config_of self.now (all supplies.now)) (state_of self.now) (datagram_of datagram.now bytes.now)) }
+        ensures { option_map cause_number result ≡ first_cause (first_causes (config_of self.now (S.all supplies.now)) (state_of self.now) (datagram_of datagram.now bytes.now)) }
     {
         if bytes.len() < 1200 {
             return Some(Cause::ShortInitial);
@@ -74,7 +74,7 @@ impl<'a> Endpoint<'a> {
         requires ready { self.old.ready ≡ true }
         requires short { length bytes.now ≤ 1500 }
         requires absent { (state_of self.old).initial datagram.now.dst_cid ≡ None }
-        ensures { (out : List ℕ) → Answered self.old self.new (all supplies.old) (all supplies.new) out out close.old close.new (datagram_of datagram.now bytes.now) result (first_packet (config_of self.old (all supplies.old)) (supply_of (all supplies.old)) (state_of self.old) (datagram_of datagram.now bytes.now)) }
+        ensures { (out : List ℕ) → Answered self.old self.new (S.all supplies.old) (S.all supplies.new) out out close.old close.new (datagram_of datagram.now bytes.now) result (first_packet (config_of self.old (S.all supplies.old)) (supply_of (S.all supplies.old)) (state_of self.old) (datagram_of datagram.now bytes.now)) }
     {
         if let Some(cause) = self.first_cause(supplies, datagram, bytes) {
             return Handled::Refused(cause);

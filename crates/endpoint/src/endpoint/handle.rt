@@ -36,9 +36,9 @@ impl<'a> Endpoint<'a> {
         out: &mut [u8],
         close: &mut Close,
     ) -> Handled
-        ensures refused { self.old.ready ≡ false → Answered self.old self.new (all supplies.old) (all supplies.new) out.old out.new close.old close.new (datagram_of datagram.now bytes.now) result (model.gives (refused 2) (state_of self.old)) }
-        ensures answered { self.old.ready ≡ true → Answered self.old self.new (all supplies.old) (all supplies.new) out.old out.new close.old close.new (datagram_of datagram.now bytes.now) result (model.handle (config_of self.old (all supplies.old)) (supply_of (all supplies.old)) (state_of self.old) (datagram_of datagram.now bytes.now) (length out.old)) }
-        ensures rfc { KeepsToRfc9000 (config_of self.old (all supplies.old)) (supply_of (all supplies.old)) (token_of (all supplies.old).signer) (state_of self.old) (datagram_of datagram.now bytes.now) (length out.old) }
+        ensures refused { self.old.ready ≡ false → Answered self.old self.new (S.all supplies.old) (S.all supplies.new) out.old out.new close.old close.new (datagram_of datagram.now bytes.now) result (model.gives (refused 2) (state_of self.old)) }
+        ensures answered { self.old.ready ≡ true → Answered self.old self.new (S.all supplies.old) (S.all supplies.new) out.old out.new close.old close.new (datagram_of datagram.now bytes.now) result (model.handle (config_of self.old (S.all supplies.old)) (supply_of (S.all supplies.old)) (state_of self.old) (datagram_of datagram.now bytes.now) (length out.old)) }
+        ensures rfc { KeepsToRfc9000 (config_of self.old (S.all supplies.old)) (supply_of (S.all supplies.old)) (token_of (S.all supplies.old).signer) (state_of self.old) (datagram_of datagram.now bytes.now) (length out.old) }
     {
         if !self.ready {
             return Handled::Refused(Cause::SetUp);

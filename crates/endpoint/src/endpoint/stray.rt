@@ -25,7 +25,7 @@ impl<'a> Endpoint<'a> {
         datagram: &Datagram,
         bytes: &[u8],
     ) -> Option<Cause>
-        ensures { option_map cause_number result ≡ first_cause (stray_causes (config_of self.now (all supplies.now)) (supply_of (all supplies.now)) (state_of self.now) (datagram_of datagram.now bytes.now)) }
+        ensures { option_map cause_number result ≡ first_cause (stray_causes (config_of self.now (S.all supplies.now)) (supply_of (S.all supplies.now)) (state_of self.now) (datagram_of datagram.now bytes.now)) }
     {
         if !is_short(datagram.kind) {
             return Some(Cause::UnexpectedPacket);
@@ -59,7 +59,7 @@ impl<'a> Endpoint<'a> {
     ) -> Handled
         requires short { length bytes.now ≤ 1500 }
         requires room { 1500 ≤ length out.old }
-        ensures { (k : CloseRecord) → Answered self.old self.new (all supplies.old) (all supplies.new) out.old out.new k k (datagram_of datagram.now bytes.now) result (stray (config_of self.old (all supplies.old)) (supply_of (all supplies.old)) (state_of self.old) (datagram_of datagram.now bytes.now)) }
+        ensures { (k : CloseRecord) → Answered self.old self.new (S.all supplies.old) (S.all supplies.new) out.old out.new k k (datagram_of datagram.now bytes.now) result (stray (config_of self.old (S.all supplies.old)) (supply_of (S.all supplies.old)) (state_of self.old) (datagram_of datagram.now bytes.now)) }
     {
         if let Some(cause) = self.stray_cause(supplies, datagram, bytes) {
             return Handled::Refused(cause);

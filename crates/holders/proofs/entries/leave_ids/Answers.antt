@@ -14,9 +14,9 @@ pub loop-i-preserved : goal.loop-i-preserved
 loop-i-preserved c =
     let h = c.index-held-i.result in
     let i = c.loop-i.invariant in (
-      c.leave-id.ensures.sound,
-      c.leave-id.ensures.long ∙ i.1,
-      let m = c.leave-id.ensures.maps in ?,
+      c.leave_id.ensures.sound,
+      c.leave_id.ensures.long ∙ i.1,
+      let m = c.leave_id.ensures.maps in ?,
     )
 
 pub returns : goal.returns

@@ -8,8 +8,8 @@ returns-in-None c =
     let sound = c.requires.sound in
     let reached = c.remove.ensures.reached sound in
     let counted = c.remove.ensures.counted sound in
-    let some = sym c.is-empty.ensures ∙ c.if-is-empty.false in
-    let none = ap (λ e. entry_after e c.args.event) (sym (c.get.ensures sound.0)) ∙ sym c.next-entry.ensures ∙ c.in-None.is in
+    let some = sym c.is_empty.ensures ∙ c.if-is_empty.false in
+    let none = ap (λ e. entry_after e c.args.event) (sym (c.get.ensures sound.0)) ∙ sym c.next_entry.ensures ∙ c.in-None.is in
     record {
       sound = (reached, counted);
       long = c.remove.ensures.long;

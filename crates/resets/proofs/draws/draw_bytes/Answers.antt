@@ -8,8 +8,8 @@ pub loop-i-preserved : goal.loop-i-preserved
 loop-i-preserved g c =
     let s = g.S.Supplies.all c.args.supplies.now in
     let i = c.loop-i.i in
-    let b = c.next-byte-b.result in
-    let is = c.next-byte-b.ensures.drawn ∙ ap (λ u. u.source 0) c.loop-i.invariant.1 ∙ ap s.source (omega arith) in (
+    let b = c.next_byte-b.result in
+    let is = c.next_byte-b.ensures.drawn ∙ ap (λ u. u.source 0) c.loop-i.invariant.1 ∙ ap s.source (omega arith) in (
       ap (λ o. set o i b) c.loop-i.invariant.0 ∙ row_over s.source c.args.out.now i b (omega arith) is,
-      c.next-byte-b.ensures.after ∙ ap (spent 0 1) c.loop-i.invariant.1 ∙ spent_add 0 1 0 i s,
+      c.next_byte-b.ensures.after ∙ ap (spent 0 1) c.loop-i.invariant.1 ∙ spent_add 0 1 0 i s,
     )

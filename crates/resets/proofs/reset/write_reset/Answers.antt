@@ -15,20 +15,20 @@ returns g c =
     let s = all c.args.supplies.now in
     let n = c.args.n in
     let o = c.args.out.now in
-    let p = c.padding-len-padding.result in
-    let pe = c.padding-len-padding.ensures in
+    let p = c.padding_len-padding.result in
+    let pe = c.padding_len-padding.ensures in
     let xs = row s.source (picked n) p in
     let token = token_of s.signer c.args.cid.now in
-    let drawn : row (all c.padding-len-padding.new.supplies).source 0 p ≡ xs =
+    let drawn : row (all c.padding_len-padding.new.supplies).source 0 p ≡ xs =
     ap (λ u. row u.source 0 p) pe.after ∙ row_shift s.source (picked n) 0 p ∙ ap (λ k. row s.source k p) (omega arith) in
-    let spending = c.draw-bytes.ensures.after ∙ ap (spent 0 p) pe.after ∙ spent_add 0 p 0 (picked n) s in
+    let spending = c.draw_bytes.ensures.after ∙ ap (spent 0 p) pe.after ∙ spent_add 0 p 0 (picked n) s in
     let signer = ap (λ u. u.signer) spending in
-    let after_mark = c.mark.ensures ∙ ap marked (c.draw-bytes.ensures.bytes ∙ ap (λ r. r ++ drop p o) drawn) in
+    let after_mark = c.mark.ensures ∙ ap marked (c.draw_bytes.ensures.bytes ∙ ap (λ r. r ++ drop p o) drawn) in
     let sixteen : length token ≡ 16 = length-take 16 (s.signer (id_bytes c.args.cid.now)) ∙ omega (arith, (g.met.S.Supplies.lawful c.args.supplies.now).signer (id_bytes c.args.cid.now)) in
     record {
       value = ap (λ k. k + 16) pe.value;
       bytes =
-          c.write-token.ensures
+          c.write_token.ensures
           ∙ ap₂ (λ r t. take p r ++ (t ++ drop (p + 16) r)) after_mark (ap (λ f. token_of f c.args.cid.now) signer)
           ∙ reset_over xs token o p (row_length s.source (picked n) p) (omega (arith, pe.low)) sixteen
           ∙ ap (λ k. over (marked (row s.source (picked n) k) ++ token) o) pe.value;
