@@ -37,23 +37,11 @@ use Rattle.endpoint.specs.Answers.{Answered}
 abbrev pub initial_in : Table ConnectionId RouteDatagramTo → ConnectionId → Option Target
 initial_in t x = option_map target_of (lookup same_id t.slots.now x)
 
--- the test on identifiers goes both ways
-same_id_sym : (x q : ConnectionId) → same_id x q ≡ same_id q x
-same_id_sym x q =
-    elim (cases_Bool (same_id x q)) [
-      | inl t ↦ t ∙ sym ((same_id_decides q x).1 (sym ((same_id_decides x q).0 t)))
-      | inr n ↦
-          elim (cases_Bool (same_id q x)) [
-            | inl t ↦ absurd (both_ways (same_id x q) n ((same_id_decides x q).1 (sym ((same_id_decides q x).0 t))))
-            | inr m ↦ n ∙ sym m
-          ]
-    ]
-
 -- the entries after an event
 pub initial_changed : (s t : Table ConnectionId RouteDatagramTo) (x : ConnectionId) (o : Option RouteDatagramTo) → Changed s t x o → initial_in t ≡ put (initial_in s) x (option_map target_of o)
 initial_changed s t x o h =
     let l = lookup same_id s.slots.now in
-    fun_ext (λ q. ap (option_map target_of) (h.maps q ∙ ap (λ b. cond (empty x) (l q) (cond b o (l q))) (same_id_sym x q)) ∙ push (empty x) (same_id q x) (l q))
+    fun_ext (λ q. ap (option_map target_of) (h.maps q) ∙ push (empty x) (same_id x q) (l q))
   where
     push : (a b : Bool) (m : Option RouteDatagramTo) → option_map target_of (cond a m (cond b o m)) ≡ cond a (option_map target_of m) (cond b (option_map target_of o) (option_map target_of m))
     push true b m = refl

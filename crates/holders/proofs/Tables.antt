@@ -10,20 +10,9 @@ use Rattle.records.specs.declared.shared.ConnectionId.{ConnectionId}
 use Rattle.records.specs.Ids.{same_id, empty}
 use Rattle.model.specs.Endpoint.{put, put_all}
 
-module _ {K : Type 0} (same : K → K → Bool) (exact : (a b : K) → same a b ≡ true → a ≡ b) (alike : (a : K) → same a a ≡ true) where
-  -- the test on keys goes both ways
-  pub same_sym : (x q : K) → same x q ≡ same q x
-  same_sym x q = elim (cases_Bool (same x q)) [
-    | inl t ↦ t ∙ sym (ap (same q) (exact x q t) ∙ alike q)
-    | inr n ↦ elim (cases_Bool (same q x)) [
-      | inl t ↦ absurd (both_ways (same x q) n (ap (same x) (exact q x t) ∙ alike x))
-      | inr m ↦ n ∙ sym m
-    ]
-  ]
-
 module _ {K V : Type 0} (same : K → K → Bool) (exact : (a b : K) → same a b ≡ true → a ≡ b) (alike : (a : K) → same a a ≡ true) where
   updated : (s t : List (Slot K V)) (k : K) (o : Option V) → With same s t k o → lookup same t ≡ update same (lookup same s) k o
-  updated s t k o h = fun_ext (λ j. h j ∙ ap (λ b. cond b o (lookup same s j)) (same_sym same exact alike k j))
+  updated s t k o h = fun_ext h
 
   -- a value that is put
   pub put_maps : {E : Type 0} (s t : List (Slot K V)) (k : K) (v : V) (r : Result (Option V) E) → used s < length s → Put same s t k v r →
@@ -41,7 +30,7 @@ module _ {K V : Type 0} (same : K → K → Bool) (exact : (a b : K) → same a 
   removed_maps s t k None h = (ap (lookup same) h.1 ∙ fun_ext absent, omega (arith, ap used h.1))
     where
       absent : (q : K) → lookup same s q ≡ update same (lookup same s) k None q
-      absent q = cond_both (same q k) None (lookup same s q) (λ v. lookup same s q ≡ v) (λ e. ap (lookup same s) (exact q k e) ∙ h.0) (λ _. refl)
+      absent q = cond_both (same k q) None (lookup same s q) (λ v. lookup same s q ≡ v) (λ e. ap (lookup same s) (sym (exact k q e)) ∙ h.0) (λ _. refl)
 
 -- an entry under an identifier that is not empty, and none under the empty one
 pub put_some : {V : Type 0} (f : ConnectionId → Option V) (x : ConnectionId) (v : Option V) → empty x ≡ false → update same_id f x v ≡ put f x v

@@ -8,10 +8,10 @@ use Rattle.endpoint.proofs.parts.index_over.Goals as goal
 
 pub returns : goal.returns
 returns c =
-    let initial = c.table-over-connection-ids-initial in
-    let ids = c.table-over-connection-ids in
-    let pairs = c.table-over-incoming-connection-remotes in
-    let tokens = c.table-over-connection-reset-tokens in
+    let initial = c.table_over-connection_ids_initial in
+    let ids = c.table_over-connection_ids in
+    let pairs = c.table_over-incoming_connection_remotes in
+    let tokens = c.table_over-connection_reset_tokens in
     record {
       fresh = record {
         initial_reached = initial.ensures.reached;

@@ -1,4 +1,4 @@
-use Rattle.std.proofs.Common.{◌≡◌, map, drop, None, sym, refl, ap, ◌∙◌, arith}
+use Rattle.std.proofs.Common.{◌≡◌, ◌-◌, map, drop, get_or, None, sym, refl, ap, ◌∙◌, arith}
 use Rattle.table.specs.Slots.{lookup}
 use Rattle.records.specs.Ids.{same_id}
 use Rattle.index.specs.declared.connection.Held.{Held}
@@ -12,11 +12,13 @@ loop-i-init c = (c.requires, refl, put_all_none (λ hs. second (map held_of hs))
 
 pub loop-i-preserved : goal.loop-i-preserved
 loop-i-preserved c =
-    let h = c.index-held-i.result in
-    let i = c.loop-i.invariant in (
+    let i = c.loop-i.invariant in
+    let d = c.index-held-i.result in
+    let x = (get_or c.args.held.now (c.loop-i.i - 1) d).id in (
       c.leave_id.ensures.sound,
       c.leave_id.ensures.long ∙ i.1,
-      let m = c.leave_id.ensures.maps in ?,
+      c.leave_id.ensures.maps ∙ ap (λ f. put f x None) i.2
+          ∙ put_all_more (λ hs. second (map held_of hs)) (λ h. h.id) (λ h hs. refl) refl _ None c.args.held.now _ c.loop-i.i d x (omega (arith, c.loop-i.auto.i, c.loop-i-test.true)) (omega (arith, c.loop-i-test.true)) refl,
     )
 
 pub returns : goal.returns

@@ -34,14 +34,14 @@ returns-then-not-self g c =
       rfc = by_rfc e u d (length o) (g.met.S.Supplies.lawful c.args.supplies.now);
     }
 
-pub returns-then-not-fits-input : goal.returns-then-not-fits-input
-returns-then-not-fits-input g c =
+pub returns-then-not-fits_input : goal.returns-then-not-fits_input
+returns-then-not-fits_input g c =
     let e = c.args.self.now in
     let u = g.S.Supplies.all c.args.supplies.now in
     let d = datagram_of c.args.datagram.now c.args.bytes.now in
     let o = c.args.out.now in
     let k = c.args.close.now in
-    let unfit = input_test e u d (length o) c.cid-len.result false c.if-not-fits-input.ensures c.cid-len.ensures in
+    let unfit = input_test e u d (length o) c.cid_len.result false c.if-not-fits_input.ensures c.cid_len.ensures in
     record {
       refused = λ r. absurd (both_ways e.ready r c.if-not-self.false);
       answered = λ _. subst (Answered e e u u o o k k d (Refused Malformed)) (sym (cond-false (fits (config_of e u) d (length o)) _ _ unfit)) (refuses e u o k d Malformed);
@@ -55,7 +55,7 @@ returns-in-Connection g c =
     let d = datagram_of c.args.datagram.now c.args.bytes.now in
     let o = c.args.out.now in
     let k = c.args.close.now in
-    let fit = input_test e u d (length o) c.cid-len.result true c.if-not-fits-input.ensures c.cid-len.ensures in
+    let fit = input_test e u d (length o) c.cid_len.result true c.if-not-fits_input.ensures c.cid_len.ensures in
     let to = ap (λ x. Some (target_of x)) (sym c.in-Connection.is) ∙ c.in-Some.ensures in
     record {
       refused = λ r. absurd (both_ways e.ready r c.if-not-self.false);
@@ -70,7 +70,7 @@ returns-in-Incoming g c =
     let d = datagram_of c.args.datagram.now c.args.bytes.now in
     let o = c.args.out.now in
     let k = c.args.close.now in
-    let fit = input_test e u d (length o) c.cid-len.result true c.if-not-fits-input.ensures c.cid-len.ensures in
+    let fit = input_test e u d (length o) c.cid_len.result true c.if-not-fits_input.ensures c.cid_len.ensures in
     let to = ap (λ x. Some (target_of x)) (sym c.in-Incoming.is) ∙ c.in-Some.ensures in
     record {
       refused = λ r. absurd (both_ways e.ready r c.if-not-self.false);
@@ -78,29 +78,29 @@ returns-in-Incoming g c =
       rfc = by_rfc e u d (length o) (g.met.S.Supplies.lawful c.args.supplies.now);
     }
 
-pub returns-then-is-initial : goal.returns-then-is-initial
-returns-then-is-initial g c =
+pub returns-then-is_initial : goal.returns-then-is_initial
+returns-then-is_initial g c =
     let e = c.args.self.now in
     let u = g.S.Supplies.all c.args.supplies.now in
     let d = datagram_of c.args.datagram.now c.args.bytes.now in
     let o = c.args.out.now in
-    let fit = input_test e u d (length o) c.cid-len.result true c.if-not-fits-input.ensures c.cid-len.ensures in
+    let fit = input_test e u d (length o) c.cid_len.result true c.if-not-fits_input.ensures c.cid_len.ensures in
     record {
       refused = λ r. absurd (both_ways e.ready r c.if-not-self.false);
-      answered = λ _. subst (Answered e _ u _ o o _ _ d _) (is_first (config_of e u) (supply_of u) (state_of e) d (length o) fit c.in-None.ensures (sym c.if-is-initial.ensures)) (c.handle-first-packet.ensures o);
+      answered = λ _. subst (Answered e _ u _ o o _ _ d _) (is_first (config_of e u) (supply_of u) (state_of e) d (length o) fit c.in-None.ensures (sym c.if-is_initial.ensures)) (c.handle_first_packet.ensures o);
       rfc = by_rfc e u d (length o) (g.met.S.Supplies.lawful c.args.supplies.now);
     }
 
-pub returns-else-is-initial : goal.returns-else-is-initial
-returns-else-is-initial g c =
+pub returns-else-is_initial : goal.returns-else-is_initial
+returns-else-is_initial g c =
     let e = c.args.self.now in
     let u = g.S.Supplies.all c.args.supplies.now in
     let d = datagram_of c.args.datagram.now c.args.bytes.now in
     let o = c.args.out.now in
     let k = c.args.close.now in
-    let fit = input_test e u d (length o) c.cid-len.result true c.if-not-fits-input.ensures c.cid-len.ensures in
+    let fit = input_test e u d (length o) c.cid_len.result true c.if-not-fits_input.ensures c.cid_len.ensures in
     record {
       refused = λ r. absurd (both_ways e.ready r c.if-not-self.false);
-      answered = λ _. subst (Answered e _ u _ o _ k k d _) (is_stray (config_of e u) (supply_of u) (state_of e) d (length o) fit c.in-None.ensures (sym c.if-is-initial.ensures)) (c.stateless-reset.ensures k);
+      answered = λ _. subst (Answered e _ u _ o _ k k d _) (is_stray (config_of e u) (supply_of u) (state_of e) d (length o) fit c.in-None.ensures (sym c.if-is_initial.ensures)) (c.stateless_reset.ensures k);
       rfc = by_rfc e u d (length o) (g.met.S.Supplies.lawful c.args.supplies.now);
     }

@@ -26,23 +26,23 @@ returns-in-Some g c =
 length_test : (e : Endpoint) (u : Supplied) (d : Datagram) (a b : ℕ) (r : Bool) → r ≡ (ltb a 8 && (not (eqb a b) || not d.token_mark)) → a ≡ d.dst.len → b ≡ u.generator.len → bad_length (config_of e u) d ≡ r
 length_test e u d a b r is p q = sym (is ∙ ap₂ (λ x y. ltb x 8 && (not (eqb x y) || not d.token_mark)) p q)
 
-pub returns-then-bad-length : goal.returns-then-bad-length
-returns-then-bad-length g c =
+pub returns-then-bad_length : goal.returns-then-bad_length
+returns-then-bad_length g c =
     let e = c.args.self.now in
     let u = g.S.Supplies.all c.args.supplies.now in
     let d = datagram_of c.args.datagram.now c.args.bytes.now in
     let k = c.args.close.now in
-    let passed = ap (option_map cause_number) (sym c.in-default.is) ∙ c.first-cause.ensures in
-    let bad = length_test e u d c.len.result c.cid-len.result true c.if-bad-length.ensures c.len.ensures.value c.cid-len.ensures in
+    let passed = ap (option_map cause_number) (sym c.in_default.is) ∙ c.first_cause.ensures in
+    let bad = length_test e u d c.len.result c.cid_len.result true c.if-bad_length.ensures c.len.ensures.value c.cid_len.ensures in
     λ o. subst (Answered e e u _ o o k _ d Closed) (is_bad (config_of e u) (supply_of u) (state_of e) d passed bad)
-    (closes e u _ o k _ d 0x0a (c.initial-close.ensures.close c.args.bytes.now) c.initial-close.ensures.after)
+    (closes e u _ o k _ d 0x0a (c.initial_close.ensures.close c.args.bytes.now) c.initial_close.ensures.after)
 
 pub open-requires : goal.open-requires
 open-requires g c =
     let e = c.args.self.now in
     let u = g.S.Supplies.all c.args.supplies.now in
     let d = datagram_of c.args.datagram.now c.args.bytes.now in
-    let passed = ap (option_map cause_number) (sym c.in-default.is) ∙ c.first-cause.ensures in
+    let passed = ap (option_map cause_number) (sym c.in_default.is) ∙ c.first_cause.ensures in
     let a = admits (config_of e u) (state_of e) d (sym passed) in
     record {
       ready = c.requires.ready;
@@ -58,8 +58,8 @@ returns-in-Closed g c =
     let u = g.S.Supplies.all c.args.supplies.now in
     let d = datagram_of c.args.datagram.now c.args.bytes.now in
     let k = c.args.close.now in
-    let passed = ap (option_map cause_number) (sym c.in-default.is) ∙ c.first-cause.ensures in
-    let good = length_test e u d c.len.result c.cid-len.result false c.if-bad-length.ensures c.len.ensures.value c.cid-len.ensures in
+    let passed = ap (option_map cause_number) (sym c.in_default.is) ∙ c.first_cause.ensures in
+    let good = length_test e u d c.len.result c.cid_len.result false c.if-bad_length.ensures c.len.ensures.value c.cid_len.ensures in
     λ o. subst (Answered e e u u o o k k d (Refused Undecodable)) (is_open (config_of e u) (supply_of u) (state_of e) d passed good opens.Closed c.in-Closed.ensures) (refuses e u o k d Undecodable)
 
 pub returns-in-ReservedBits : goal.returns-in-ReservedBits
@@ -68,8 +68,8 @@ returns-in-ReservedBits g c =
     let u = g.S.Supplies.all c.args.supplies.now in
     let d = datagram_of c.args.datagram.now c.args.bytes.now in
     let k = c.args.close.now in
-    let passed = ap (option_map cause_number) (sym c.in-default.is) ∙ c.first-cause.ensures in
-    let good = length_test e u d c.len.result c.cid-len.result false c.if-bad-length.ensures c.len.ensures.value c.cid-len.ensures in
+    let passed = ap (option_map cause_number) (sym c.in_default.is) ∙ c.first_cause.ensures in
+    let good = length_test e u d c.len.result c.cid_len.result false c.if-bad_length.ensures c.len.ensures.value c.cid_len.ensures in
     λ o. subst (Answered e e u u o o k k d (Refused ReservedBits)) (is_open (config_of e u) (supply_of u) (state_of e) d passed good opens.ReservedBits c.in-ReservedBits.ensures) (refuses e u o k d ReservedBits)
 
 pub returns-in-BadToken : goal.returns-in-BadToken
@@ -78,9 +78,9 @@ returns-in-BadToken g c =
     let u = g.S.Supplies.all c.args.supplies.now in
     let d = datagram_of c.args.datagram.now c.args.bytes.now in
     let k = c.args.close.now in
-    let passed = ap (option_map cause_number) (sym c.in-default.is) ∙ c.first-cause.ensures in
-    let good = length_test e u d c.len.result c.cid-len.result false c.if-bad-length.ensures c.len.ensures.value c.cid-len.ensures in
-    let close = c.initial-close-in-BadToken.ensures in
+    let passed = ap (option_map cause_number) (sym c.in_default.is) ∙ c.first_cause.ensures in
+    let good = length_test e u d c.len.result c.cid_len.result false c.if-bad_length.ensures c.len.ensures.value c.cid_len.ensures in
+    let close = c.initial_close-in-BadToken.ensures in
     λ o. subst (Answered e e u _ o o k _ d Closed) (is_open (config_of e u) (supply_of u) (state_of e) d passed good opens.BadToken c.in-BadToken.ensures)
     (closes e u _ o k _ d 0x0b (close.close c.args.bytes.now) close.after)
 
@@ -90,6 +90,6 @@ returns-in-Open g c =
     let u = g.S.Supplies.all c.args.supplies.now in
     let d = datagram_of c.args.datagram.now c.args.bytes.now in
     let k = c.args.close.now in
-    let passed = ap (option_map cause_number) (sym c.in-default.is) ∙ c.first-cause.ensures in
-    let good = length_test e u d c.len.result c.cid-len.result false c.if-bad-length.ensures c.len.ensures.value c.cid-len.ensures in
+    let passed = ap (option_map cause_number) (sym c.in_default.is) ∙ c.first_cause.ensures in
+    let good = length_test e u d c.len.result c.cid_len.result false c.if-bad_length.ensures c.len.ensures.value c.cid_len.ensures in
     λ o. subst (Answered e _ u u o o k k d _) (is_open (config_of e u) (supply_of u) (state_of e) d passed good (opens.Open c.in-Open.opening) c.in-Open.ensures) (c.open.ensures u o k)

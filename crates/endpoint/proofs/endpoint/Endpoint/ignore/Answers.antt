@@ -16,8 +16,8 @@ use Rattle.endpoint.proofs.Arriving.{initial_in, initial_room, same_state}
 use Rattle.endpoint.proofs.Leaving.{brought_none, brings, leaves, ignored_as}
 use Rattle.endpoint.proofs.endpoint.Endpoint.ignore.Goals as goal
 
-pub set-initial-requires : goal.set-initial-requires
-set-initial-requires c =
+pub set_initial-requires : goal.set_initial-requires
+set_initial-requires c =
     let e = c.args.self.now in
     let r = c.if-not-self.false in
     record { sound = (e.initial_reached r, e.counted r); room = initial_room e r }
@@ -31,8 +31,8 @@ push-requires c =
     let b = brings e c.args.attempt c.in-Some.first slot r c.spend-slot.ensures c.in-Some.ensures in
     omega (arith, e.all_slots r, e.shared r, in_slot_held slot ws b.attempt b.there, length_without slot ws)
 
-pub invariant-of-self : goal.invariant-of-self
-invariant-of-self c =
+pub invariant_of-self : goal.invariant_of-self
+invariant_of-self c =
     let e = c.args.self.now in
     let r = c.if-not-self.false in
     let slot = c.spend-slot.result in
@@ -47,59 +47,30 @@ invariant-of-self c =
     let free = free_list e.slots in
     let f = initial_of e.index in
     let g = put f d.dst None in
-    let f' = initial_in c.set-initial.new.initial in
+    let f' = initial_in c.set_initial.new.initial in
     let none = no_empty_told f (e.no_empty r) in
     let held = in_slot_held slot ws w b.there in
     let m : ws' ≡ vs = ap groups c.spend.ensures.entries ∙ spends es slot in
-    let t = leaves e c.set-initial.new.initial c.args.attempt x slot r b c.set-initial.ensures.changed in (
-      e.few_incoming,
-      (
-        λ _. c.spend.ensures.sound,
-        (
-          λ _. c.set-initial.ensures.sound.0,
-          (
-            e.ids_reached,
-            (
-              e.pairs_reached,
-              (
-                e.tokens_reached,
-                (
-                  λ _. c.set-initial.ensures.sound.1,
-                  (
-                    λ _. omega (arith, c.set-initial.ensures.long, e.roomy r),
-                    (
-                      e.all_connections,
-                      (
-                        λ _. c.push.ensures.long ∙ e.all_slots r,
-                        (
-                          λ _. ap proper c.spend.ensures.entries ∙ spends_proper es slot (e.proper r),
-                          (
-                            λ _. omega (arith, c.push.ensures.used, ap length m, length_without slot ws, e.shared r, e.once r slot, held),
-                            (
-                              λ _. omega (arith, t.count, ap entered m, entered_spent slot ws w b.there (once_held free ws slot (e.once r)), e.few_entries r),
-                              (
-                                λ _. once_as (slot ∷ free) _ vs ws' c.push.ensures.free m (once_spent free ws slot (e.once r) held),
-                                (
-                                  λ _. named_as g f' vs ws' t.maps m (named_spent f ws slot d None (e.named r) b.leads),
-                                  (
-                                    λ _. pointed_as g f' vs ws' t.maps m (pointed_spent f ws slot d None (e.pointed r) none b.leads refl),
-                                    (λ _. no_empty_tells f' (no_empty_as g f' t.maps (no_empty_put f d.dst None none)), tt),
-                                  ),
-                                ),
-                              ),
-                            ),
-                          ),
-                        ),
-                      ),
-                    ),
-                  ),
-                ),
-              ),
-            ),
-          ),
-        ),
-      ),
-    )
+    let t = leaves e c.set_initial.new.initial c.args.attempt x slot r b c.set_initial.ensures.changed in
+    record {
+      few_incoming = e.few_incoming;
+      sound = λ _. c.spend.ensures.sound;
+      initial_reached = λ _. c.set_initial.ensures.sound.0;
+      ids_reached = e.ids_reached;
+      pairs_reached = e.pairs_reached;
+      tokens_reached = e.tokens_reached;
+      counted = λ _. c.set_initial.ensures.sound.1;
+      roomy = λ _. omega (arith, c.set_initial.ensures.long, e.roomy r);
+      all_connections = e.all_connections;
+      all_slots = λ _. c.push.ensures.long ∙ e.all_slots r;
+      proper = λ _. ap proper c.spend.ensures.entries ∙ spends_proper es slot (e.proper r);
+      shared = λ _. omega (arith, c.push.ensures.used, ap length m, length_without slot ws, e.shared r, e.once r slot, held);
+      few_entries = λ _. omega (arith, t.count, ap entered m, entered_spent slot ws w b.there (once_held free ws slot (e.once r)), e.few_entries r);
+      once = λ _. once_as (slot ∷ free) _ vs ws' c.push.ensures.free m (once_spent free ws slot (e.once r) held);
+      named = λ _. named_as g f' vs ws' t.maps m (named_spent f ws slot d None (e.named r) b.leads);
+      pointed = λ _. pointed_as g f' vs ws' t.maps m (pointed_spent f ws slot d None (e.pointed r) none b.leads refl);
+      no_empty = λ _. no_empty_tells f' (no_empty_as g f' t.maps (no_empty_put f d.dst None none));
+    }
 
 pub returns-in-None : goal.returns-in-None
 returns-in-None c =
@@ -119,7 +90,7 @@ returns-in-Some c =
     let r = c.if-not-self.false in
     let slot = c.spend-slot.result in
     let b = brings e c.args.attempt c.in-Some.first slot r c.spend-slot.ensures c.in-Some.ensures in
-    let t = leaves e c.set-initial.new.initial c.args.attempt c.in-Some.first.dst_cid slot r b c.set-initial.ensures.changed in
+    let t = leaves e c.set_initial.new.initial c.args.attempt c.in-Some.first.dst_cid slot r b c.set_initial.ensures.changed in
     record {
       refused = λ n. absurd (both_ways e.ready n r);
       ignored = λ _ u.

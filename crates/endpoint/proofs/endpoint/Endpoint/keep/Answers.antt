@@ -28,11 +28,11 @@ keep-requires c =
     record {
       sound = e.sound r;
       short = c.requires.short;
-      room = omega (arith, leb-false _ _ (sym c.if-no-place.ensures), places es (e.proper r));
+      room = omega (arith, leb-false _ _ (sym c.if-no_place.ensures), places es (e.proper r));
     }
 
-pub invariant-of-self : goal.invariant-of-self
-invariant-of-self c =
+pub invariant_of-self : goal.invariant_of-self
+invariant_of-self c =
     let e = c.args.self.now in
     let r = c.requires.ready in
     let slot = c.args.slot in
@@ -49,52 +49,26 @@ invariant-of-self c =
     let one : holding slot ws ≡ 1 = omega (arith, held, e.once r slot) in
     let n = arrives es (entries c.keep.new.self) a c.keep.ensures.entries (e.proper r) (eq-eqb (holding slot ws) 1 one) in
     let long = ap length n.groups_are ∙ length-map ws (add_kept slot d) in
-    let fewer = ap entered n.groups_are ∙ entered_kept slot d ws in (
-      e.few_incoming,
-      (
-        λ _. c.keep.ensures.sound,
-        (
-          e.initial_reached,
-          (
-            e.ids_reached,
-            (
-              e.pairs_reached,
-              (
-                e.tokens_reached,
-                (
-                  e.counted,
-                  (
-                    e.roomy,
-                    (
-                      e.all_connections,
-                      (
-                        e.all_slots,
-                        (
-                          λ _. n.proper_is,
-                          (
-                            λ _. omega (arith, long, e.shared r),
-                            (
-                              λ _. omega (arith, fewer, e.few_entries r),
-                              (
-                                λ _. once_as free free vs ws' refl n.groups_are (once_kept free ws slot d (e.once r)),
-                                (
-                                  λ _. named_as f f vs ws' refl n.groups_are (named_kept f ws slot d (e.named r)),
-                                  (λ _. pointed_as f f vs ws' refl n.groups_are (pointed_kept f ws slot d (e.pointed r)), (e.no_empty, tt)),
-                                ),
-                              ),
-                            ),
-                          ),
-                        ),
-                      ),
-                    ),
-                  ),
-                ),
-              ),
-            ),
-          ),
-        ),
-      ),
-    )
+    let fewer = ap entered n.groups_are ∙ entered_kept slot d ws in
+    record {
+      few_incoming = e.few_incoming;
+      sound = λ _. c.keep.ensures.sound;
+      initial_reached = e.initial_reached;
+      ids_reached = e.ids_reached;
+      pairs_reached = e.pairs_reached;
+      tokens_reached = e.tokens_reached;
+      counted = e.counted;
+      roomy = e.roomy;
+      all_connections = e.all_connections;
+      all_slots = e.all_slots;
+      proper = λ _. n.proper_is;
+      shared = λ _. omega (arith, long, e.shared r);
+      few_entries = λ _. omega (arith, fewer, e.few_entries r);
+      once = λ _. once_as free free vs ws' refl n.groups_are (once_kept free ws slot d (e.once r));
+      named = λ _. named_as f f vs ws' refl n.groups_are (named_kept f ws slot d (e.named r));
+      pointed = λ _. pointed_as f f vs ws' refl n.groups_are (pointed_kept f ws slot d (e.pointed r));
+      no_empty = e.no_empty;
+    }
 
 pub returns : goal.returns
 returns c u out k =
@@ -106,7 +80,7 @@ returns c u out k =
     let g = config_of e u in
     let q : model.keep g s d slot ≡ gives (stored slot) (with_kept s slot d) =
     ap (keep_by s d slot)
-    (cond-false (too_large g s slot d) (Some 21) _ (sym c.if-too-large.ensures) ∙ cond-false (no_place g s) (Some 22) None (sym c.if-no-place.ensures)) in
+    (cond-false (too_large g s slot d) (Some 21) _ (sym c.if-too_large.ensures) ∙ cond-false (no_place g s) (Some 22) None (sym c.if-no_place.ensures)) in
     answered_as q
     (record {
       answer = refl;

@@ -16,4 +16,4 @@ pub returns : goal.returns
 returns c =
     let e = c.args.self.now in
     let es = entries e.places in
-    ap not c.has-room.ensures ∙ not_below (length es) (width e.places) ∙ ap (leb (width e.places)) (sym (places es (e.proper c.requires)))
+    ap not c.has_room.ensures ∙ not_below (length es) (width e.places) ∙ ap (leb (width e.places)) (sym (places es (e.proper c.requires)))

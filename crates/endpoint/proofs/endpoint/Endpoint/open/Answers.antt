@@ -33,14 +33,14 @@ keep-requires c =
     let r = c.requires.ready in
     record { sound = e.sound r; short = c.requires.short; room = omega (arith, c.requires.room, places (entries e.places) (e.proper r)) }
 
-pub set-initial-requires : goal.set-initial-requires
-set-initial-requires c =
+pub set_initial-requires : goal.set_initial-requires
+set_initial-requires c =
     let e = c.args.self.now in
     let r = c.requires.ready in
     record { sound = (e.initial_reached r, e.counted r); room = initial_room e r }
 
-pub invariant-of-self : goal.invariant-of-self
-invariant-of-self c =
+pub invariant_of-self : goal.invariant_of-self
+invariant_of-self c =
     let e = c.args.self.now in
     let r = c.requires.ready in
     let slot = c.in-Some.slot in
@@ -53,59 +53,30 @@ invariant-of-self c =
     let free = free_list e.slots in
     let f = initial_of e.index in
     let g = put f x (Some (to_attempt slot)) in
-    let f' = initial_in c.set-initial.new.initial in
+    let f' = initial_in c.set_initial.new.initial in
     let top = top_cons free slot c.in-Some.ensures in
     let un = top_unheld free ws slot top (e.once r) in
     let n = arrives es (entries c.keep.new.self) a c.keep.ensures.entries (e.proper r) (eq-eqb (holding slot ws) 0 un) in
-    let t = enters e.index.connection_ids_initial c.set-initial.new.initial x slot c.set-initial.ensures.changed c.requires.absent in (
-      e.few_incoming,
-      (
-        λ _. c.keep.ensures.sound,
-        (
-          λ _. c.set-initial.ensures.sound.0,
-          (
-            e.ids_reached,
-            (
-              e.pairs_reached,
-              (
-                e.tokens_reached,
-                (
-                  λ _. c.set-initial.ensures.sound.1,
-                  (
-                    λ _. omega (arith, c.set-initial.ensures.long, e.roomy r),
-                    (
-                      e.all_connections,
-                      (
-                        λ _. c.drop-top.ensures.long ∙ e.all_slots r,
-                        (
-                          λ _. n.proper_is,
-                          (
-                            λ _. omega (arith, c.drop-top.ensures.used, ap length n.groups_are, e.shared r, c.requires.few),
-                            (
-                              λ _. omega (arith, t.count, ap entered n.groups_are, e.few_entries r),
-                              (
-                                λ _. once_as (drop 1 free) _ (w ∷ ws) ws' c.drop-top.ensures.free n.groups_are (once_opened free ws w top (e.once r)),
-                                (
-                                  λ _. named_as g f' (w ∷ ws) ws' t.maps n.groups_are (named_opened f ws w (e.named r) c.requires.absent),
-                                  (
-                                    λ _. pointed_as g f' (w ∷ ws) ws' t.maps n.groups_are (pointed_opened f ws w (e.pointed r) (lead_none slot ws un)),
-                                    (λ _. no_empty_tells f' (no_empty_as g f' t.maps (no_empty_put f x (Some (to_attempt slot)) (no_empty_told f (e.no_empty r)))), tt),
-                                  ),
-                                ),
-                              ),
-                            ),
-                          ),
-                        ),
-                      ),
-                    ),
-                  ),
-                ),
-              ),
-            ),
-          ),
-        ),
-      ),
-    )
+    let t = enters e.index.connection_ids_initial c.set_initial.new.initial x slot c.set_initial.ensures.changed c.requires.absent in
+    record {
+      few_incoming = e.few_incoming;
+      sound = λ _. c.keep.ensures.sound;
+      initial_reached = λ _. c.set_initial.ensures.sound.0;
+      ids_reached = e.ids_reached;
+      pairs_reached = e.pairs_reached;
+      tokens_reached = e.tokens_reached;
+      counted = λ _. c.set_initial.ensures.sound.1;
+      roomy = λ _. omega (arith, c.set_initial.ensures.long, e.roomy r);
+      all_connections = e.all_connections;
+      all_slots = λ _. c.drop_top.ensures.long ∙ e.all_slots r;
+      proper = λ _. n.proper_is;
+      shared = λ _. omega (arith, c.drop_top.ensures.used, ap length n.groups_are, e.shared r, c.requires.few);
+      few_entries = λ _. omega (arith, t.count, ap entered n.groups_are, e.few_entries r);
+      once = λ _. once_as (drop 1 free) _ (w ∷ ws) ws' c.drop_top.ensures.free n.groups_are (once_opened free ws w top (e.once r));
+      named = λ _. named_as g f' (w ∷ ws) ws' t.maps n.groups_are (named_opened f ws w (e.named r) c.requires.absent);
+      pointed = λ _. pointed_as g f' (w ∷ ws) ws' t.maps n.groups_are (pointed_opened f ws w (e.pointed r) (lead_none slot ws un));
+      no_empty = λ _. no_empty_tells f' (no_empty_as g f' t.maps (no_empty_put f x (Some (to_attempt slot)) (no_empty_told f (e.no_empty r))));
+    }
 
 pub returns : goal.returns
 returns c u out k =
@@ -114,13 +85,13 @@ returns c u out k =
     let slot = c.in-Some.slot in
     let x = c.args.datagram.now.dst_cid in
     let a = arrival slot true c.args.datagram.now c.args.bytes.now in
-    let t = enters e.index.connection_ids_initial c.set-initial.new.initial x slot c.set-initial.ensures.changed c.requires.absent in
+    let t = enters e.index.connection_ids_initial c.set_initial.new.initial x slot c.set_initial.ensures.changed c.requires.absent in
     let next : next_free s.free_slots ≡ slot = ap (λ l. get_or l 0 0) (top_cons s.free_slots slot c.in-Some.ensures) in
     answered_as (ap (λ n. gives (opened_answer n c.args.opening) (with_opened s n (sent a))) next)
     (record {
       answer = ap (λ (y : Attempt). opened_answer y.slot c.args.opening) c.new.ensures;
       number = ap (λ (y : Attempt). y.number) c.new.ensures;
-      state = same_state s (ap groups c.keep.ensures.entries ∙ adds (entries e.places) a) c.drop-top.ensures.free t.maps;
+      state = same_state s (ap groups c.keep.ensures.entries ∙ adds (entries e.places) a) c.drop_top.ensures.free t.maps;
       drawn = sym (spent_none u);
       output = refl;
       close = refl;

@@ -30,16 +30,16 @@ returns g c =
     let d = datagram_of c.args.datagram.now c.args.bytes.now in
     let o = c.args.out.now in
     let n = size d in
-    let w = c.write-reset-n.ensures in
+    let w = c.write_reset-n.ensures in
     let xs = marked (row u.source (picked n) (padding u.source n)) in
     let long : length xs ≡ padding u.source n = marked_length (row u.source (picked n) (padding u.source n)) ∙ row_length u.source (picked n) (padding u.source n) in
     let token = token_of u.signer d.dst in
     let sixteen = token_length u.signer (g.met.S.Supplies.lawful c.args.supplies.now).signer d.dst in
-    let is = ap (stray_by (supply_of u) (state_of e) d) (ap (option_map cause_number) (sym c.in-default.is) ∙ c.stray-cause.ensures) in
-    λ k. subst (Answered e _ u _ o _ k k d (Reset c.write-reset-n.result)) (reset_outcome u (state_of e) d ∙ is) (record {
+    let is = ap (stray_by (supply_of u) (state_of e) d) (ap (option_map cause_number) (sym c.in_default.is) ∙ c.stray_cause.ensures) in
+    λ k. subst (Answered e _ u _ o _ k k d (Reset c.write_reset-n.result)) (reset_outcome u (state_of e) d ∙ is) (record {
       answer =
-          ap (λ r. reset_of d (take c.write-reset-n.result r)) w.bytes
-          ∙ reset_read d xs token o c.write-reset-n.result sixteen (w.value ∙ ap (λ m. m + 16) (sym long));
+          ap (λ r. reset_of d (take c.write_reset-n.result r)) w.bytes
+          ∙ reset_read d xs token o c.write_reset-n.result sixteen (w.value ∙ ap (λ m. m + 16) (sym long));
       number = tt;
       state = refl;
       drawn = w.after;
