@@ -1,5 +1,6 @@
 //! Lists of calls as text: a set-up and its calls are read, and answers are written.
 #![tactic(auto)]
+
 mod address;
 pub mod answer;
 mod call;

@@ -69,9 +69,9 @@ put_as f false i (Some s) k = refl
 holds_put : (number : ℕ) (p : List (Option Attempt)) (i : ℕ) (slots : ℕ → Option ℕ) (a : Attempt) → a.number ≡ number → i < length p → Holds number p slots →
     Holds number (set p i (Some a)) (put_slot slots i (Some a.slot))
 holds_put number p i slots a is w H k =
-    cond_both (eqb k i) (Some a.slot) (slots k) (λ o. get_or (set p i (Some a)) k None ≡ in_hand number o)
-    (λ t. ap (λ j. get_or (set p i (Some a)) j None) (eqb-true k i t) ∙ get_or-set_same p i (Some a) None w ∙ ap (λ n. Some (record { number = n; slot = a.slot })) is)
-    (λ t. get_or-set_other p i k (Some a) None (eqb-false k i t) ∙ H k)
+    cond_both (eqb i k) (Some a.slot) (slots k) (λ o. get_or (set p i (Some a)) k None ≡ in_hand number o)
+    (λ t. ap (λ j. get_or (set p i (Some a)) j None) (sym (eqb-true i k t)) ∙ get_or-set_same p i (Some a) None w ∙ ap (λ n. Some (record { number = n; slot = a.slot })) is)
+    (λ t. get_or-set_other p i k (Some a) None (λ e. eqb-false i k t (sym e)) ∙ H k)
 
 -- a spent attempt leaves its place
 holds_spent : (number : ℕ) (p : List (Option Attempt)) (k : ℕ) (slots : ℕ → Option ℕ) → k < length p → Holds number p slots →

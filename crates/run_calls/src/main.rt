@@ -1,4 +1,5 @@
 #![tactic(auto)]
+
 mod memory;
 mod session;
 

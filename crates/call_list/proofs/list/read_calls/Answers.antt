@@ -12,4 +12,4 @@ pub loop-line-preserved : goal.loop-line-preserved
 loop-line-preserved c =
     let n = vec_len c.call.new.all in
     let before = all_within_more (vec_len c.loop-line.bytes) n c.call.ensures.grows (vec_items c.loop-line.calls) c.loop-line.invariant in
-    rw c.in-ok-push.ensures.items (All-push (Within n) (vec_items c.loop-line.calls) c.in-Ok.read before c.in-Ok.ensures.within)
+    rw c.in_ok-push-in-Ok.ensures.items (All-push (Within n) (vec_items c.loop-line.calls) c.in-Ok.read before c.in-Ok.ensures.within)

@@ -5,7 +5,7 @@ use Rattle.run.proofs.Stepping.{not_all_none}
 use Rattle.run.proofs.pool.is_clear.Goals as goal
 
 pub loop-i-preserved : goal.loop-i-preserved
-loop-i-preserved c = rw add-one (and_from _ _ (ap is_none c.in-default.is) c.loop-i.invariant)
+loop-i-preserved c = rw add-one (and_from _ _ (ap is_none c.in_default.is) c.loop-i.invariant)
 
 pub returns-in-Some : goal.returns-in-Some
 returns-in-Some c =

@@ -42,20 +42,20 @@ returns g c =
     let given = c.args.settings in
     let m = sizes_of c.args.memory in
     let u = g.S.Supplies.all c.args.supplies.now in
-    let room = c.room-fits-fits.result in
+    let room = c.room_fits-fits.result in
     let e = c.new-e.ensures in
     let is : c.new-e.result.ready ≡ (room && set_up_fits given.max_incoming c.args.w m) =
-    e.ready ∙ ap (λ k. set_up_fits given.max_incoming k m) c.places-for.ensures ∙ both_fit room given.max_incoming c.args.w m in
+    e.ready ∙ ap (λ k. set_up_fits given.max_incoming k m) c.places_for.ensures ∙ both_fit room given.max_incoming c.args.w m in
     record {
-      taken = c.run-ready.ensures.ready ∙ is ∙ ap (λ b. b && set_up_fits given.max_incoming c.args.w m) c.room-fits-fits.ensures;
-      refused = λ f. c.run-ready.ensures.refused (sym c.run-ready.ensures.ready ∙ f);
+      taken = c.run_ready.ensures.ready ∙ is ∙ ap (λ b. b && set_up_fits given.max_incoming c.args.w m) c.room_fits-fits.ensures;
+      refused = λ f. c.run_ready.ensures.refused (sym c.run_ready.ensures.ready ∙ f);
       ran = λ t.
-          let ready : c.new-e.result.ready ≡ true = sym c.run-ready.ensures.ready ∙ t in
+          let ready : c.new-e.result.ready ≡ true = sym c.run_ready.ensures.ready ∙ t in
           let both = and_parts room (set_up_fits given.max_incoming c.args.w m) (sym is ∙ ready) in
           let E = built given c.args.w c.args.number u m (fits_so given.max_incoming c.args.w m both.1) (g.met.S.Supplies.lawful c.args.supplies.now) in
-          let p = c.run-ready.ensures.ran ready E (record {
+          let p = c.run_ready.ensures.ran ready E (record {
             settings = sym e.settings;
-            places = sym (e.width ready ∙ c.places-for.ensures ∙ cond-true room c.args.w 0 both.0);
+            places = sym (e.width ready ∙ c.places_for.ensures ∙ cond-true room c.args.w 0 both.0);
             number = sym e.number;
             generator = refl;
             source = refl;

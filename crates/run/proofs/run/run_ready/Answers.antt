@@ -4,9 +4,9 @@ use Rattle.run.proofs.run.run_ready.Goals as goal
 
 pub returns : goal.returns
 returns g c =
-    let ready : c.args.e.now.ready ≡ true = sym c.if-not-is-ready.ensures in
+    let ready : c.args.e.now.ready ≡ true = sym c.if-not-is_ready.ensures in
     record {
-      ready = c.run-all.ensures.ready ∙ sym ready;
+      ready = c.run_all.ensures.ready ∙ sym ready;
       refused = λ f. absurd (both_ways c.args.e.now.ready f ready);
-      ran = λ _ E built. (c.run-all.ensures.ran E built, c.run-all.ensures.state E built);
+      ran = λ _ E built. (c.run_all.ensures.ran E built, c.run_all.ensures.state E built);
     }
