@@ -1,6 +1,6 @@
 -- A call's datagram stays within the bytes as they grow.
 use Rattle.std.proofs.Common.{ℕ, ◌≤◌, List, arith}
-use Rattle.std.specs.List.{AllByRecursion as All}
+use Rattle.std.specs.List.{AllByRecursion}
 use Rattle.std.proofs.ByRecursion.{All-weaker}
 use Rattle.calls.specs.declared.call.Call as call
 use Rattle.calls.specs.declared.call.Call.TheVariants.{Handle, Ignore}
@@ -16,5 +16,5 @@ pub within_more : (m n : ℕ) → m ≤ n → (l : Line) → Within m l → With
 within_more m n h (lines.Call c) w = call_within_more m n h c w
 within_more m n h lines.Malformed w = w
 
-pub all_within_more : (m n : ℕ) → m ≤ n → (ls : List Line) → All (Within m) ls → All (Within n) ls
+pub all_within_more : (m n : ℕ) → m ≤ n → (ls : List Line) → AllByRecursion (Within m) ls → AllByRecursion (Within n) ls
 all_within_more m n h ls w = All-weaker (Within m) (Within n) (within_more m n h) ls w

@@ -1,5 +1,5 @@
 ghost use Rattle.std.specs.Prelude.{IfOk, vec_len};
-ghost use Rattle.std.specs.List.{AllByRecursion as All};
+ghost use Rattle.std.specs.List.{AllByRecursion};
 ghost use Rattle.call_list.specs.Lines.{Within};
 
 use crate::call::call;
@@ -116,7 +116,7 @@ fn read_calls(
     lines: &[Numbered],
     endpoint: u32,
 ) -> Result<(Vec<Line>, Vec<u8>, Option<Fault>), Failure>
-    ensures { IfOk result (λ p. All (Within (vec_len p.1)) p.0.items) }
+    ensures { IfOk result (λ p. AllByRecursion (Within (vec_len p.1)) p.0.items) }
 {
     let mut calls = Vec::new(heap);
     let mut bytes = Vec::new(heap);
@@ -135,7 +135,7 @@ fn read_calls(
 
 /// Reads a call list: its set-up, and its calls up to the first line with a fault.
 pub fn parse(heap: Global, text: &str) -> Result<Parsed, Failure>
-    ensures { IfOk result (λ p. All (Within (vec_len p.bytes)) p.calls.items) }
+    ensures { IfOk result (λ p. AllByRecursion (Within (vec_len p.bytes)) p.calls.items) }
 {
     let lines = speaking(heap, text)?;
     let lines = lines.as_slice();

@@ -1,6 +1,6 @@
 -- What the words of a call list stand for.
 use Rattle.std.specs.Prelude.{◌≡◌, ℕ, ◌+◌, ◌-◌, ◌*◌, ◌/◌, ◌%◌, ◌^◌, ◌<◌, Bool, true, cond, ◌&&◌, ◌||◌, List, [], ◌∷◌, ◌++◌, length, replicate, codes, ◌≢◌, nat_le, nat_lt}
-use Rattle.std.specs.List.{AllByRecursion as All}
+use Rattle.std.specs.List.{AllByRecursion}
 use Rattle.std.specs.Str.{all_ascii_digits}
 
 -- the hexadecimal digit of a number below 16: 0 to 9, a to f
@@ -19,7 +19,7 @@ bytes_word (b ∷ bs) = hex_of (b ∷ bs)
 
 -- no bytes have this text
 abbrev pub NoneHas : (List ℕ → List ℕ) → List ℕ → Type 0
-NoneHas text word = (bs : List ℕ) → All (λ b. b < 256) bs → text bs ≢ word
+NoneHas text word = (bs : List ℕ) → AllByRecursion (λ b. b < 256) bs → text bs ≢ word
 
 -- the text of more than 20 bytes, which no identifier has
 abbrev pub Long : List ℕ → Type 0
