@@ -1,5 +1,5 @@
 -- What lists of calls and their answers mean.
-use Rattle.std.specs.Prelude.{ℕ, zero, suc, ◌-◌, Bool, true, false, cond, List, [], ◌∷◌, length, get_or, take, drop, Some, None}
+use Rattle.std.specs.Prelude.{ℕ, ◌-◌, cond, List, length, take, drop}
 use Rattle.records.specs.Causes.{cause_number}
 use Rattle.records.specs.Received.{Datagram, datagram_of}
 use Rattle.model.specs.Records as records

@@ -1,5 +1,5 @@
 -- Answers that change nothing, closes and resets.
-use Rattle.std.proofs.Common.{◌≡◌, ℕ, ◌+◌, ◌-◌, ◌%◌, ◌<◌, ◌≤◌, Bool, true, false, cond, not, ◌&&◌, ◌||◌, ltb, leb, List, [], ◌∷◌, ◌++◌, length, take, drop, Some, None, Option, sym, refl, ap, ◌∙◌, subst, ap₂, arith, length-append}
+use Rattle.std.proofs.Common.{◌≡◌, ℕ, ◌+◌, ◌-◌, ◌%◌, ◌<◌, ◌≤◌, Bool, true, false, cond, leb, List, ◌++◌, length, take, drop, Some, None, Option, sym, refl, ap, ◌∙◌, ap₂, arith, length-append}
 use Rattle.std.proofs.lemmas.List.{take_at, drop_at}
 use Rattle.std.proofs.lemmas.Bool.{cond-true, cond-false, or_parts, leb-false}
 use Rattle.records.specs.declared.cause.Cause.{Cause}
@@ -7,17 +7,16 @@ use Rattle.records.specs.declared.packet.Close.{Close}
 use Rattle.records.specs.Causes.{cause_number}
 use Rattle.records.specs.Received.{Datagram, size, is_initial}
 use Rattle.supply.specs.declared.answers.Opens.{Opens}
-use Rattle.supply.specs.Meaning.{Supplied, spent, token_of}
+use Rattle.supply.specs.Meaning.{Supplied, spent}
 use Rattle.supply.proofs.Spending.{spent_none}
-use Rattle.model.specs.Records.{Answer, refused, delivered, stored, opened, closing, reset}
-use Rattle.model.specs.Endpoint.{State, Config, Supply, Outcome, Target, row, with_reset, first_cause, saturated, no_place, route}
-use Rattle.model.specs.Calls.{gives, close_to, close_now, marked, number_of, send_reset, reset_by, reset_for, first_causes, first_by, open_by, bad_length, handle, handle_by, stray, first_packet, fits}
-use Rattle.resets.specs.Bytes.{over, picked, padding, reset_bytes}
+use Rattle.model.specs.Records.{refused, delivered, closing, reset}
+use Rattle.model.specs.Endpoint.{State, Config, Supply, Target, row, first_cause, saturated, no_place, route}
+use Rattle.model.specs.Calls.{gives, close_to, close_now, number_of, send_reset, reset_by, reset_for, first_causes, first_by, open_by, bad_length, handle, handle_by, stray, first_packet, fits}
+use Rattle.resets.specs.Bytes.{over, picked, padding}
 use Rattle.endpoint.specs.declared.endpoint.Endpoint.{Endpoint}
-use Rattle.endpoint.specs.declared.handled.Handled.{Handled}
-use Rattle.endpoint.specs.declared.handled.Handled.TheVariants.{Refused, Delivered, Kept, Opened, Closed, Reset}
-use Rattle.endpoint.specs.State.{state_of, config_of, supply_of, Frame}
-use Rattle.endpoint.specs.Answers.{reset_of, answer_of, Answered}
+use Rattle.endpoint.specs.declared.handled.Handled.TheVariants.{Refused, Delivered, Closed}
+use Rattle.endpoint.specs.State.{state_of, supply_of, Frame}
+use Rattle.endpoint.specs.Answers.{reset_of, Answered}
 
 pub same_frame : (e : Endpoint) → Frame e e
 same_frame e = record { ready = refl; settings = refl; number = refl; width = refl }

@@ -3,14 +3,13 @@ use Rattle.std.proofs.Common.{◌≡◌, ℕ, ◌+◌, ◌<◌, ◌≤◌, Bool,
 use mathlib.Core.Path.{fun_ext}
 use Rattle.std.specs.Option.{option_map}
 use Rattle.std.proofs.lemmas.List.Sums.{sum_by-cons}
-use Rattle.std.proofs.lemmas.Bool.{cond-true, cond-false, cases_Bool, and_from, both_ways}
+use Rattle.std.proofs.lemmas.Bool.{cond-true, cond-false, cases_Bool, and_from}
 use Rattle.table.specs.declared.table.Table.{Table}
 use Rattle.table.specs.Slots.{lookup}
 use Rattle.records.specs.declared.shared.ConnectionId.{ConnectionId}
 use Rattle.records.specs.declared.packet.Close.{Close}
 use Rattle.records.specs.Ids.{same_id, empty}
 use Rattle.records.specs.Received.{Datagram}
-use Rattle.records.specs.Same.{same_id_decides}
 use Rattle.supply.specs.Meaning.{Supplied}
 use Rattle.places.specs.Entries.{Entry}
 use Rattle.places.specs.Free.{top_of}

@@ -1,14 +1,13 @@
 -- An endpoint where nothing waits and no connection lives.
-use Rattle.std.proofs.Common.{◌≡◌, ℕ, ◌<◌, ◌≤◌, Bool, true, false, cond, ◌&&◌, ltb, leb, ◌⊎◌, List, [], length, get_or, Some, None, Option, sym, refl, ap, ◌∙◌, inl, inr, arith}
+use Rattle.std.proofs.Common.{◌≡◌, ℕ, ◌<◌, ◌≤◌, Bool, true, false, ◌&&◌, ltb, leb, List, length, get_or, None, ap, inl, inr}
 use mathlib.Core.Path.{fun_ext}
 use Rattle.std.proofs.lemmas.List.{get_or_past}
 use Rattle.std.proofs.lemmas.Bool.{and_parts, leb-true, ltb-true, cond-false, cases_Bool, ltb-false}
 use Rattle.table.specs.declared.slot.Slot.{Slot}
 use Rattle.table.specs.Slots.{lookup, answer, Cleared}
 use Rattle.table.proofs.Lookups.{lookup_absent}
-use Rattle.model.specs.Endpoint.{Conn}
 use Rattle.index.specs.declared.connection.ConnectionMeta.{ConnectionMeta}
-use Rattle.index.specs.Conns.{conn_of, conns_of, no_meta}
+use Rattle.index.specs.Conns.{conns_of, no_meta}
 use Rattle.endpoint.specs.SetUps.{Sizes, places_fit, numbers_fit, tables_fit, limits_fit, set_up_fits}
 
 -- what a set-up that is taken has

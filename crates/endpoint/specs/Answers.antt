@@ -1,5 +1,5 @@
 -- What the answers of the code mean, and what a call leaves.
-use Rattle.std.specs.Prelude.{◌≡◌, ℕ, ◌-◌, List, [], length, take, drop}
+use Rattle.std.specs.Prelude.{◌≡◌, ℕ, ◌-◌, List, length, take, drop}
 use Rattle.records.specs.declared.packet.Close.{Close}
 use Rattle.records.specs.Causes.{cause_number}
 use Rattle.records.specs.Received.{Datagram}

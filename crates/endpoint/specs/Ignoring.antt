@@ -1,5 +1,5 @@
 -- What `ignore` answers and leaves.
-use Rattle.std.specs.Prelude.{◌≡◌, cond, Some, None, Ok, Err, Option, Result, ◌==◌}
+use Rattle.std.specs.Prelude.{◌≡◌, cond, None, Ok, Err, Option, Result, ◌==◌}
 use Rattle.records.specs.declared.packet.Datagram.{Datagram}
 use Rattle.records.specs.declared.incoming.Attempt.{Attempt}
 use Rattle.records.specs.Causes.{cause_number}

@@ -1,5 +1,5 @@
 -- What an endpoint is made of at first.
-use Rattle.std.specs.Prelude.{◌≡◌, ℕ, None, Option}
+use Rattle.std.specs.Prelude.{◌≡◌, None, Option}
 use Rattle.table.specs.Slots.{lookup, Reached, used}
 use Rattle.records.specs.Ids.{same_id}
 use Rattle.records.specs.Keys.{hash_id, same_pair, hash_pair, same_sender, hash_sender}

@@ -1,5 +1,5 @@
 -- What an endpoint means: its state and its configuration.
-use Rattle.std.specs.Prelude.{◌≡◌, ℕ, Bool, true}
+use Rattle.std.specs.Prelude.{◌≡◌}
 use Rattle.records.specs.Ids.{same_id}
 use Rattle.records.specs.Keys.{same_pair, same_sender}
 use Rattle.table.specs.Slots.{lookup}

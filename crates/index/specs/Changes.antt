@@ -1,5 +1,5 @@
 -- What an event leaves of the Initial entries.
-use Rattle.std.specs.Prelude.{◌≡◌, ℕ, ◌+◌, Bool, true, false, cond, is_some, Option}
+use Rattle.std.specs.Prelude.{◌≡◌, ℕ, ◌+◌, true, false, cond, is_some, Option}
 use Rattle.table.specs.declared.table.Table.{Table}
 use Rattle.table.specs.Slots.{lookup}
 use Rattle.records.specs.declared.shared.ConnectionId.{ConnectionId}

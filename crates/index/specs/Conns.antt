@@ -1,5 +1,5 @@
 -- What the places of connections mean.
-use Rattle.std.specs.Prelude.{ℕ, Bool, true, false, cond, List, [], map, take, replicate, Some, None, Option, slice_index_or, refl}
+use Rattle.std.specs.Prelude.{ℕ, false, cond, List, [], map, take, replicate, Some, None, Option, slice_index_or, refl}
 use Rattle.std.proofs.Common.{lit≤}
 use Rattle.records.specs.declared.address.SocketAddr.TheVariants.{V4}
 use Rattle.records.specs.Ids.{no_id, empty}

@@ -1,7 +1,7 @@
 -- What the tables mean.
-use Rattle.std.specs.Prelude.{◌≡◌, ℕ, ◌+◌, ◌<◌, Bool, true, false, cond, List, [], map, length, get_or, take, Some, None, Option}
+use Rattle.std.specs.Prelude.{[], None, Option}
 use Rattle.std.specs.Option.{option_map}
-use Rattle.table.specs.Slots.{lookup, Reached, used}
+use Rattle.table.specs.Slots.{lookup, Reached}
 use Rattle.records.specs.declared.shared.ConnectionId.{ConnectionId}
 use Rattle.records.specs.Ids.{same_id}
 use Rattle.records.specs.Keys.{same_pair, same_sender, hash_id, hash_pair, hash_sender}

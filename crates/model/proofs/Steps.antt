@@ -8,13 +8,12 @@ use Rattle.supply.specs.declared.answers.Opens.{Opens as Opened}
 use Rattle.supply.specs.declared.answers.Opens.TheVariants.{Closed, ReservedBits, BadToken, Open}
 use Rattle.supply.specs.declared.answers.Greets.{Greets}
 use Rattle.supply.specs.declared.answers.Greets.TheVariants.{Yes, TransportError, Other}
-use Rattle.model.specs.Endpoint
 use Rattle.model.specs.Endpoint.{Conn, Waiting, Target, to_attempt, to_connection, State, Config, Supply, Outcome, first_cause, is_none, is_held, sequenced, grants, Search, none_left, found, several, without, with_spent, new_conn, with_accepted, with_drained, conn_holding, conn_less, with_retired, with_sender, or_else, held_route, initial_route, route}
 use Rattle.model.specs.Calls
 use Rattle.model.specs.Calls.{gives, next_free, in_slot, brought, held_at, sealed, sealed_grants, Room}
 use Rattle.model.specs.Runs
 use Rattle.model.specs.Runs.{Setup, config, supply_at, Attempt, own, foreign, Call, handles, accepts, refuses, ignores, handles_event, Entry, World, entry_of, brings, is_own, spent_by, opened_slot, slots_after, in_hand, incoming, with_attempt, outcome, outcome_of}
-use Rattle.model.specs.Words.{Among, event_for, granted, begun, drains, retires, sends, ends, loses, names, spends}
+use Rattle.model.specs.Words.{Among, event_for, granted, begun, drains, retires, sends, loses, spends}
 use Rattle.model.proofs.Keys.{up_read, among_append, among_left, among_right, among_kept, kept_among}
 use Rattle.model.proofs.Naming.{none_some, some_same, Apart, SeveralFound, several_found}
 use Rattle.model.proofs.Sound.{Sound, a_slot, next_among, in_slot_among, reset_sound, kept_sound, open_sound, spent_sound, accept_sound, drain_sound, issued_sound, retired_sound, sender_sound}

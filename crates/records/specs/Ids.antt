@@ -1,5 +1,5 @@
 -- What an identifier is.
-use Rattle.std.specs.Prelude.{◌≡◌, ℕ, zero, suc, ◌≤◌, Bool, ◌&&◌, List, take, replicate, ◌==◌, slice_index, refl}
+use Rattle.std.specs.Prelude.{◌≡◌, ℕ, zero, suc, Bool, ◌&&◌, List, take, replicate, ◌==◌, slice_index, refl}
 use Rattle.std.proofs.Common.{lit≤}
 use Rattle.std.specs.Str.{bytes_eq}
 use Rattle.records.specs.declared.shared.ConnectionId.{ConnectionId}

@@ -1,5 +1,5 @@
 -- When two addresses, address pairs or remotes with tokens are the same, and what a table takes for their hash.
-use Rattle.std.specs.Prelude.{ℕ, ◌*◌, ◌%◌, ◌^◌, Bool, true, false, ◌&&◌, List, [], ◌∷◌, Some, None, fold, Option, ◌==◌, bit_xor}
+use Rattle.std.specs.Prelude.{ℕ, ◌*◌, ◌%◌, ◌^◌, Bool, true, false, ◌&&◌, List, Some, None, fold, Option, ◌==◌, bit_xor}
 use Rattle.std.specs.Str.{bytes_eq}
 use Rattle.records.specs.declared.shared.ConnectionId.{ConnectionId}
 use Rattle.records.specs.declared.address.SocketAddrV4.{SocketAddrV4}

@@ -1,6 +1,6 @@
 -- The tests for equality are exact.
-use Rattle.std.specs.Prelude.{◌≡◌, ℕ, ◌≤◌, Bool, true, false, ◌&&◌, List, length, Some, None, Decides, Option, ◌==◌, slice_index, refl}
-use Rattle.std.proofs.Common.{sym, ap, ◌∙◌, subst}
+use Rattle.std.specs.Prelude.{◌≡◌, ℕ, ◌≤◌, true, false, ◌&&◌, length, Some, None, Decides, Option, ◌==◌, slice_index, refl}
+use Rattle.std.proofs.Common.{ap, subst}
 use mathlib.Core.HLevel.{is_prop→PathP, Π_prop, →_prop}
 use Rattle.std.proofs.Math.Nat.{ℕ_set}
 use Rattle.std.proofs.Math.Bridge.{le_prop}

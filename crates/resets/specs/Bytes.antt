@@ -1,5 +1,5 @@
 -- The bytes of a stateless reset.
-use Rattle.std.specs.Prelude.{ℕ, ◌+◌, ◌-◌, ◌%◌, Bool, cond, List, ◌++◌, length, drop, nat_le}
+use Rattle.std.specs.Prelude.{ℕ, ◌+◌, ◌-◌, ◌%◌, cond, List, ◌++◌, length, drop, nat_le}
 use Rattle.records.specs.declared.shared.ConnectionId.{ConnectionId}
 use Rattle.supply.specs.Meaning.{Supplied, token_of}
 use Rattle.model.specs.Endpoint.{row}

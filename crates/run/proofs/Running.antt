@@ -1,14 +1,13 @@
 -- One more call of a list.
-use Rattle.std.proofs.Common.{◌≡◌, ℕ, zero, suc, ◌+◌, ◌<◌, ◌≤◌, Bool, true, false, cond, ◌&&◌, ltb, leb, ◌≢◌, ◌⊎◌, List, [], ◌∷◌, map, length, get_or, set, Some, None, Option, sym, refl, ap, ◌∙◌, subst, ap₂, inl, inr, arith, get_or-set_other, get_or-set_same}
+use Rattle.std.proofs.Common.{◌≡◌, ℕ, zero, suc, ◌+◌, ◌<◌, ◌≤◌, true, ◌&&◌, ltb, leb, ◌≢◌, List, [], ◌∷◌, map, length, get_or, set, Some, None, Option, sym, refl, ap, ◌∙◌, subst, ap₂, inl, inr, arith, get_or-set_other, get_or-set_same}
 use Rattle.std.proofs.lemmas.List.{get_or_past}
 use Rattle.std.proofs.lemmas.Bool.{cases_eq, cases_Bool, and_parts, leb-true, ltb-true, ltb-false}
-use Rattle.records.specs.declared.config.Settings.{Settings}
 use Rattle.records.specs.declared.incoming.Attempt.{Attempt}
 use Rattle.supply.specs.Meaning.{Supplied, spent, token_of}
 use Rattle.supply.proofs.Spending.{spent_add, spent_none}
 use Rattle.places.specs.Held.{width}
-use Rattle.model.specs.Records.{Answer, written}
-use Rattle.model.specs.Endpoint.{Outcome, Config, Supply, is_none, new_state}
+use Rattle.model.specs.Records.{written}
+use Rattle.model.specs.Endpoint.{Outcome, is_none, new_state}
 use Rattle.model.specs.Calls.{sealed}
 use Rattle.model.specs.Runs as runs
 use Rattle.model.specs.Runs.{after, history}

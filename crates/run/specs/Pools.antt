@@ -1,5 +1,5 @@
 -- The attempts that the host holds, by the number of the call that opened each.
-use Rattle.std.specs.Prelude.{◌≡◌, ℕ, zero, suc, ◌<◌, Bool, true, false, ◌&&◌, List, Some, None, Option, slice_index_or}
+use Rattle.std.specs.Prelude.{◌≡◌, ℕ, zero, suc, ◌<◌, Bool, true, ◌&&◌, List, None, Option, slice_index_or}
 use Rattle.records.specs.declared.incoming.Attempt.{Attempt}
 use Rattle.model.specs.Endpoint.{is_none}
 use Rattle.model.specs.Runs.{in_hand}

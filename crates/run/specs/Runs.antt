@@ -1,5 +1,5 @@
 -- What a run of a list of calls answers and leaves.
-use Rattle.std.specs.Prelude.{◌≡◌, ℕ, zero, suc, ◌<◌, ◌≤◌, Bool, true, ◌&&◌, List, [], ◌∷◌, map, length, Option, nat_le, slice_index_or}
+use Rattle.std.specs.Prelude.{◌≡◌, ℕ, zero, suc, ◌<◌, ◌≤◌, Bool, ◌&&◌, List, [], ◌∷◌, map, length, Option, nat_le, slice_index_or}
 use Rattle.records.specs.declared.config.Settings.{Settings}
 use Rattle.records.specs.declared.incoming.Attempt.{Attempt}
 use Rattle.supply.specs.Meaning.{Supplied, spent}

@@ -1,6 +1,6 @@
 -- A table has no more keys than a list that names each of them.
 use Rattle.std.proofs.Common.{◌≡◌, ℕ, zero, suc, ◌+◌, ◌<◌, ◌≤◌, Bool, true, false, cond, List, [], ◌∷◌, length, get_or, Some, None, Option, sym, refl, ap, ◌∙◌, inl, inr, mod-lt, arith}
-use Rattle.std.proofs.lemmas.Bool.{cases_order, cond-true}
+use Rattle.std.proofs.lemmas.Bool.{cond-true}
 use Rattle.table.specs.declared.slot.Slot.{Slot}
 use Rattle.table.specs.declared.slot.Slot.TheVariants.{Empty, Freed, Used}
 use Rattle.table.specs.Slots.{around, home, Reached, answer, or_else, lookup, weight, used}

@@ -1,8 +1,8 @@
-use Rattle.std.proofs.Common.{◌≡◌, ℕ, zero, suc, ◌+◌, ◌-◌, ◌<◌, ◌≤◌, Bool, true, false, cond, ◌≢◌, ◌⊎◌, List, [], ◌∷◌, length, get_or, set, Some, None, Ok, Err, Option, Result, sym, refl, ap, ◌∙◌, subst, inl, inr, mod-lt, arith, length-set, get_or-set_other, get_or-set_same}
+use Rattle.std.proofs.Common.{◌≡◌, ℕ, ◌+◌, ◌<◌, Bool, true, false, cond, ◌≢◌, ◌⊎◌, List, length, get_or, set, Some, None, Ok, Err, sym, refl, ap, ◌∙◌, subst, inl, inr, mod-lt, arith, length-set, get_or-set_other, get_or-set_same}
 use Rattle.std.proofs.lemmas.Bool.{cases_eq, cases_Bool, cases_order, both_ways}
 use Rattle.table.specs.declared.slot.Slot.{Slot}
 use Rattle.table.specs.declared.slot.Slot.TheVariants.{Empty, Freed, Used}
-use Rattle.table.specs.Slots.{stops, around, home, Passed, Way, Reached, Nearest, Stands, Vacant, answer, or_else, lookup, weight, used, With, grew, Put, Removed, Cleared, Tidied}
+use Rattle.table.specs.Slots.{stops, around, home, Passed, Reached, Nearest, Stands, Vacant, answer, lookup, weight, With, Put, Removed, Cleared, Tidied}
 use Rattle.table.proofs.Rounds.{around_more, around_less, around_one, around_to}
 use Rattle.table.proofs.Lookups.{lookup_absent, lookup_alone, lookup_skip, used_set, used_full, used_room}
 

@@ -1,7 +1,6 @@
 -- The first datagram of each attempt, and what is left when an attempt goes.
 use Rattle.std.proofs.Common.{◌≡◌, ℕ, ◌+◌, ◌≤◌, Bool, true, false, cond, not, ◌&&◌, eqb, List, [], ◌∷◌, map, length, Some, None, fold, Option, sym, refl, ap, ◌∙◌, inl, inr, arith}
 use Rattle.std.proofs.lemmas.Bool.{cond-true, cond-false, cases_Bool, cases_eq, and_parts, and_from, and_left, and_right, eqb-true, eq-eqb, ne_eqb, not_from_true, not_from_false}
-use Rattle.records.specs.declared.packet.Datagram as code
 use Rattle.records.specs.Ids.{empty}
 use Rattle.records.specs.Received.{Datagram}
 use Rattle.places.specs.Entries.{Entry, first_of}

@@ -1,5 +1,5 @@
 -- Bytes that are appended one by one.
-use Rattle.std.proofs.Common.{◌≡◌, ℕ, ◌+◌, List, [], ◌∷◌, ◌++◌, replicate, ap, ◌∙◌, append_assoc}
+use Rattle.std.proofs.Common.{◌≡◌, ℕ, ◌+◌, List, [], ◌∷◌, ◌++◌, replicate, append_assoc}
 use Rattle.std.proofs.lemmas.List.{replicate_more}
 
 pub placed_more : (start before after : List ℕ) (k fill : ℕ) → before ≡ start ++ replicate k fill → after ≡ before ++ fill ∷ []

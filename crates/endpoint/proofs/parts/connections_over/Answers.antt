@@ -1,4 +1,4 @@
-use Rattle.std.proofs.Common.{◌∙◌, rules}
+use Rattle.std.proofs.Common.{rules}
 use Rattle.endpoint.proofs.Starting.{no_conns}
 use Rattle.endpoint.proofs.parts.connections_over.Goals as goal
 

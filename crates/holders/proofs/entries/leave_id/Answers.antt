@@ -1,4 +1,4 @@
-use Rattle.std.proofs.Common.{None, sym, refl, ◌∙◌, arith}
+use Rattle.std.proofs.Common.{None, sym, refl, ◌∙◌}
 use Rattle.holders.proofs.Tables.{put_some, put_none}
 use Rattle.holders.proofs.entries.leave_id.Goals as goal
 

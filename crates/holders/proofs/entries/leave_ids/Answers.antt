@@ -1,7 +1,6 @@
-use Rattle.std.proofs.Common.{◌≡◌, ◌-◌, map, drop, get_or, None, sym, refl, ap, ◌∙◌, arith}
+use Rattle.std.proofs.Common.{◌≡◌, ◌-◌, map, drop, get_or, None, refl, ap, ◌∙◌, arith}
 use Rattle.table.specs.Slots.{lookup}
 use Rattle.records.specs.Ids.{same_id}
-use Rattle.index.specs.declared.connection.Held.{Held}
 use Rattle.index.specs.Conns.{held_of}
 use Rattle.model.specs.Endpoint.{put, put_all, second}
 use Rattle.holders.proofs.Tables.{put_all_more, put_all_none}

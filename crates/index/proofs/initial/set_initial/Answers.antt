@@ -1,4 +1,4 @@
-use Rattle.std.proofs.Common.{◌≡◌, sym, ap, ◌∙◌}
+use Rattle.std.proofs.Common.{sym, ap, ◌∙◌}
 use Rattle.index.specs.Entries.{entry_after}
 use Rattle.index.proofs.Changing.{removed}
 use Rattle.index.proofs.initial.set_initial.Goals as goal

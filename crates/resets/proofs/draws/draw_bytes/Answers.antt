@@ -1,4 +1,4 @@
-use Rattle.std.proofs.Common.{◌≡◌, ◌+◌, set, sym, ap, ◌∙◌, arith}
+use Rattle.std.proofs.Common.{set, ap, ◌∙◌, arith}
 use Rattle.supply.specs.Meaning.{spent}
 use Rattle.supply.proofs.Spending.{spent_add}
 use Rattle.resets.proofs.Writing.{row_over}

@@ -1,11 +1,11 @@
-use Rattle.std.proofs.Common.{◌≡◌, ℕ, ◌+◌, List, ◌++◌, length, take, drop, sym, refl, ap, ◌∙◌, ap₂, arith, length-take}
+use Rattle.std.proofs.Common.{◌≡◌, ◌+◌, ◌++◌, length, take, drop, ap, ◌∙◌, ap₂, arith, length-take}
 use Rattle.records.specs.Ids.{id_bytes}
 use Rattle.supply.specs.Meaning.{spent, token_of}
 use Rattle.supply.proofs.Spending.{spent_add}
 use Rattle.model.specs.Endpoint.{row}
 use Rattle.model.specs.Calls.{marked}
 use Rattle.model.proofs.Draws.{row_length, row_shift}
-use Rattle.resets.specs.Bytes.{over, picked, padding, reset_bytes}
+use Rattle.resets.specs.Bytes.{over, picked}
 use Rattle.resets.proofs.Writing.{reset_over}
 use Rattle.resets.proofs.reset.write_reset.Goals as goal
 

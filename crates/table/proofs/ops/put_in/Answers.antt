@@ -1,4 +1,4 @@
-use Rattle.std.proofs.Common.{◌≡◌, ℕ, length, Some, None, sym, refl, ap, ◌∙◌, subst, arith}
+use Rattle.std.proofs.Common.{ℕ, Some, refl, subst, arith}
 use Rattle.table.specs.declared.ops.Full.{Full}
 use Rattle.table.specs.Slots.{Vacant}
 use Rattle.table.proofs.Lookups.{lookup_absent, used_full}

@@ -1,6 +1,6 @@
-use Rattle.std.proofs.Common.{◌≡◌, ◌<◌, length, sym, ap, ◌∙◌, arith, below_more}
+use Rattle.std.proofs.Common.{◌<◌, length, ap, ◌∙◌, arith, below_more}
 use Rattle.std.proofs.lemmas.List.{get_or_read}
-use Rattle.table.specs.Slots.{around, stops}
+use Rattle.table.specs.Slots.{around}
 use Rattle.table.specs.declared.slot.Slot.TheVariants.{Empty}
 use Rattle.table.proofs.Rounds.{around_more}
 use Rattle.table.proofs.seek.seek.Goals as goal

@@ -1,10 +1,9 @@
-use Rattle.std.proofs.Common.{◌≡◌, ℕ, Bool, true, false, ◌&&◌, leb, length, Some, None, sym, refl, ap, ◌∙◌, subst}
+use Rattle.std.proofs.Common.{◌≡◌, ℕ, Bool, true, false, ◌&&◌, leb, length, Some, sym, ap, ◌∙◌, subst}
 use Rattle.std.proofs.lemmas.Bool.{both_ways, cond-false}
 use Rattle.records.specs.declared.cause.Cause.TheVariants.{Malformed, SetUp}
 use Rattle.records.specs.Received.{Datagram, datagram_of, well_formed}
 use Rattle.supply.specs.Meaning.{Supplied, AllLawful, token_of}
 use Rattle.index.specs.Routes.{target_of}
-use Rattle.model.specs.Endpoint.{to_attempt, to_connection}
 use Rattle.model.specs.Calls.{fits}
 use Rattle.model.specs.Rfc9000.{KeepsToRfc9000}
 use Rattle.model.proofs.Rfc9000.{keeps_to_rfc9000, token_length}

@@ -1,4 +1,4 @@
-use Rattle.std.proofs.Common.{◌≡◌, ◌<◌, ◌≤◌, length, get_or, take, sym, ◌∙◌, arith, length-take, get_or-take, ext_get_or}
+use Rattle.std.proofs.Common.{◌≡◌, ◌<◌, length, take, ◌∙◌, arith, length-take, get_or-take, ext_get_or}
 use Rattle.records.proofs.shared.ConnectionId.new.Goals as goal
 
 pub returns : goal.returns
