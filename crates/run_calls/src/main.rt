@@ -21,10 +21,10 @@ fn run(rt: &HostRuntime) -> anyhow::Result<()> {
     let parsed = match parse(rt.alloc(), text.as_str()) {
         Ok(parsed) => parsed,
         Err(Failure::SetUp) => return Ok(println!(rt; "set-up refused 2")?),
-        Err(Failure::Memory) => return Err(anyhow!("no memory")),
+        Err(Failure::Memory) => return Err(anyhow!("\"no memory\"")),
         Err(Failure::Fault(fault)) => {
             eprintln!(rt; "{fault}")?;
-            return Err(anyhow!("the set-up cannot be read"));
+            return Err(anyhow!("\"the set-up cannot be read\""));
         }
     };
     let end = parsed.end;
@@ -38,7 +38,7 @@ fn run(rt: &HostRuntime) -> anyhow::Result<()> {
     }
     if let Some(fault) = end {
         eprintln!(rt; "{fault}")?;
-        return Err(anyhow!("the list ends there"));
+        return Err(anyhow!("\"the list ends there\""));
     }
     Ok(())
 }
