@@ -227,7 +227,7 @@ RoutesComeOut =
 
 -- ## A list of calls
 
--- the identifiers id-of n, id-of (n + 1), ..
+-- the identifiers id_of n, id_of (n + 1), ..
 abbrev pub from : ℕ → Generator
 from n = record { len = 8; draw = λ i. id_of (n + i); valid = λ i x. true }
 

@@ -31,7 +31,7 @@ pub record Grant : Type 0 where
 -- what a connection tells the endpoint
 --     need n          it wants n more identifiers
 --     retire q more   its identifier of the sequence q goes, and it wants another in its place, or none
---     reset-token r   its peer's resets bear this token and come from this remote
+--     reset_token r   its peer's resets bear this token and come from this remote
 --     drained         it is over
 pub data Event : Type 0 where
   need : ℕ → Event
