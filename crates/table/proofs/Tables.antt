@@ -1,9 +1,12 @@
-use Rattle.std.proofs.Common.{◌≡◌, ℕ, ◌+◌, ◌<◌, Bool, true, false, cond, ◌≢◌, ◌⊎◌, List, length, get_or, set, Some, None, Ok, Err, sym, refl, ap, ◌∙◌, subst, inl, inr, mod-lt, arith, length-set, get_or-set_other, get_or-set_same}
+use Rattle.std.proofs.Common.{◌≡◌, ℕ, ◌+◌, ◌<◌, Bool, true, false, cond, ◌≢◌, ◌⊎◌, List, length, get_or, set, Some, None, Option, Ok, Err, sym, refl, ap, ◌∙◌, subst, inl, inr, mod-lt, arith, length-set, get_or-set_other, get_or-set_same}
 use Rattle.std.proofs.lemmas.Bool.{cases_eq, cases_Bool, cases_order, both_ways}
+use Rattle.std.specs.Option.{option_map}
 use Rattle.table.specs.declared.slot.Slot.{Slot}
+use Rattle.table.specs.declared.slot.Spot.{Spot}
 use Rattle.table.specs.declared.slot.Slot.TheVariants.{Empty, Freed, Used}
-use Rattle.table.specs.Slots.{stops, around, home, Passed, Reached, Nearest, Stands, Vacant, answer, lookup, weight, With, Put, Removed, Cleared, Tidied}
+use Rattle.table.specs.Slots.{stops, vacates, around, home, Reached, Stands, answer, lookup, weight, With, Put, Removed, Cleared, Tidied}
 use Rattle.table.proofs.Rounds.{around_more, around_less, around_one, around_to}
+use Rattle.table.proofs.Searches.{Round, Passed, vacates_weight, kept_weight}
 use Rattle.table.proofs.Lookups.{lookup_absent, lookup_alone, lookup_skip, used_set, used_full, used_room}
 
 -- Reached with one argument for each field, which is easier to apply.
@@ -127,7 +130,7 @@ module _ {K V : Type 0} (same : K → K → Bool) (exact : (a b : K) → same a 
 
   -- A key whose search ends at a place that does not hold it stands nowhere.
   pub absent_some : (code : K → ℕ) (s : List (Slot K V)) (k : K) (p : ℕ) → Reach same code s
-      → Nearest same s (home (length s) (code k)) k (Some p) → ((v : V) → get_or s p Empty ≡ Used k v → ⊥)
+      → Round (stops same k) Empty s (home (length s) (code k)) (Some p) → ((v : V) → get_or s p Empty ≡ Used k v → ⊥)
       → (j : ℕ) → j < length s → answer same k (get_or s j Empty) ≡ None
   absent_some code s k p r near no_key j jl =
       elim (answers k (get_or s j Empty)) [
@@ -188,6 +191,11 @@ module _ {K V : Type 0} (same : K → K → Bool) (exact : (a b : K) → same a 
       others : (q : ℕ) → q < length s → q ≢ p → answer same k (get_or s q Empty) ≡ None
       others q ql ne = elim (answers k (get_or s q Empty)) [ inl z ↦ z | inr w ↦ absurd (ne (alone code s k p v r pl e q w.0 ql w.1)) ]
 
+  -- What is found under a key is what the map has.
+  pub stands_answer : (code : K → ℕ) (s : List (Slot K V)) (k : K) (o : Option (Spot V)) → Stands same code s k o → Reached same code s → option_map (λ x. x.value) o ≡ lookup same s k
+  stands_answer code s k (Some x) e h = sym (stands_lookup code s k x.at x.value (spread same code s h) e.0 e.1)
+  stands_answer code s k None e h = sym (lookup_absent same s k (e h))
+
   with_put : (s : List (Slot K V)) (k : K) (v : V) (p : ℕ) → p < length s
       → ((j : ℕ) (w : V) → j < length s → get_or s j Empty ≡ Used k w → j ≡ p)
       → ((j : K) → same k j ≡ false → answer same j (get_or s p Empty) ≡ None)
@@ -216,21 +224,22 @@ module _ {K V : Type 0} (same : K → K → Bool) (exact : (a b : K) → same a 
       )
 
   -- A new key at the nearest place that holds none.
-  pub put_new : (E : Type 0) (code : K → ℕ) (s : List (Slot K V)) (k : K) (v : V) (p : ℕ) → Stands same code s k None → Vacant s (home (length s) (code k)) (Some p)
+  pub put_new : (E : Type 0) (code : K → ℕ) (s : List (Slot K V)) (k : K) (v : V) (p : ℕ) → Stands same code s k None → Round vacates Empty s (home (length s) (code k)) (Some p)
       → Reached same code s → Reached same code (set s p (Used k v)) × Put {E = E} same s (set s p (Used k v)) k v (Ok None)
   put_new E code s k v p absent vac h =
       let hl : (a : K) → home (length s) (code a) < length s = λ a. mod-lt (code a) (omega arith) in
       let d = vac.2 in
+      let w = vacates_weight _ vac.1 in
       let u = used_set s p (Used k v) vac.0 in (
         joined same code (set s p (Used k v))
             (reached_put code s k v d.0 p d.1 hl (spread same code s h) d.2
-            (λ e el. passes (get_or s (around (length s) (home (length s) (code k)) e) Empty) (d.3 e el) (no_key _ (around_less _ _ e (hl k) (omega arith))))
+            (λ e el. passes (get_or s (around (length s) (home (length s) (code k)) e) Empty) (kept_weight _ (d.3 e el)) (no_key _ (around_less _ _ e (hl k) (omega arith))))
             one),
         (
           sym (lookup_absent same s k no_key),
-          with_put s k v p vac.0 one (λ j f. unused j (get_or s p Empty) vac.1),
+          with_put s k v p vac.0 one (λ j f. unused j (get_or s p Empty) w),
           omega arith,
-          λ q. used_room s p vac.0 vac.1,
+          λ q. used_room s p vac.0 w,
         ),
       )
     where
@@ -247,10 +256,10 @@ module _ {K V : Type 0} (same : K → K → Bool) (exact : (a b : K) → same a 
 
   -- The refusal of a new key where each place has a key.
   pub put_full : {E : Type 0} (s : List (Slot K V)) (k : K) (v : V) (o : ℕ) (x : E) → o < length s
-      → ((j : ℕ) → j < length s → answer same k (get_or s j Empty) ≡ None) → Vacant s o None
+      → ((j : ℕ) → j < length s → answer same k (get_or s j Empty) ≡ None) → Round vacates Empty s o None
       → Put same s s k v (Err x)
   put_full s k v o x h no_key vac =
-      (refl, lookup_absent same s k no_key, used_full s (λ j jl. let t = around_to (length s) o j h jl in ap (λ i. weight (get_or s i Empty)) t.2 ∙ vac t.0 t.1))
+      (refl, lookup_absent same s k no_key, used_full s (λ j jl. let t = around_to (length s) o j h jl in ap (λ i. weight (get_or s i Empty)) t.2 ∙ kept_weight _ (vac t.0 t.1)))
 
   -- The removal of a key that stands at p.
   pub remove_known : (code : K → ℕ) (s : List (Slot K V)) (k : K) (v : V) (p : ℕ) → p < length s → get_or s p Empty ≡ Used k v

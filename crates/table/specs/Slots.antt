@@ -1,4 +1,5 @@
-use Rattle.std.specs.Prelude.{◌≡◌, ℕ, ◌+◌, ◌-◌, ◌%◌, ◌<◌, Bool, true, false, cond, List, [], ◌∷◌, length, get_or, Some, None, Ok, Err, Option, Result, nat_lt, slice_index_or}
+use Rattle.std.specs.Prelude.{◌≡◌, ℕ, ◌+◌, ◌-◌, ◌%◌, ◌<◌, Bool, true, false, cond, List, [], ◌∷◌, length, get_or, Some, None, Ok, Err, Option, Result, nat_lt, slice_index_or, take, drop, position}
+use Rattle.std.specs.Option.{option_map}
 use Rattle.table.specs.declared.slot.Slot.{Slot}
 use Rattle.table.specs.declared.slot.Spot.{Spot}
 use Rattle.table.specs.declared.slot.Slot.TheVariants.{Empty, Freed, Used}
@@ -9,20 +10,27 @@ stops same k Empty = true
 stops same k Freed = false
 stops same k (Used a v) = same a k
 
+-- Whether a place holds no key.
+abbrev pub vacates : {K V : Type 0} → Slot K V → Bool
+vacates Empty = true
+vacates Freed = true
+vacates (Used a v) = false
+
+-- Whether a place is empty.
+abbrev pub is_empty : {K V : Type 0} → Slot K V → Bool
+is_empty Empty = true
+is_empty Freed = false
+is_empty (Used a v) = false
+
+-- Whether a place was freed.
+abbrev pub is_freed : {K V : Type 0} → Slot K V → Bool
+is_freed Empty = false
+is_freed Freed = true
+is_freed (Used a v) = false
+
 -- The place d steps on from s, going round n places.
 abbrev pub around : ℕ → ℕ → ℕ → ℕ
 around n s d = cond (nat_lt (s + d) n) (s + d) (s + d - n)
-
--- The search for k from start on does not end at any of the first d places.
-abbrev pub Passed : {K V : Type 0} → (K → K → Bool) → List (Slot K V) → ℕ → K → ℕ → Type 0
-Passed same s start k d = (e : ℕ) → e < d → stops same k (slice_index_or s (around (length s) start e) Empty) ≡ false
-
--- The nearest place from start on, going round, at which the search for k ends, if there is one.
-abbrev pub Nearest : {K V : Type 0} → (K → K → Bool) → List (Slot K V) → ℕ → K → Option ℕ → Type 0
-Nearest same s start k (Some p) =
-    (p < length s) × (stops same k (slice_index_or s p Empty) ≡ true)
-    × ((d : ℕ) × (d < length s) × (p ≡ around (length s) start d) × Passed same s start k d)
-Nearest same s start k None = Passed same s start k (length s)
 
 -- What one place answers for the key k.
 abbrev pub answer : {K V : Type 0} → (K → K → Bool) → K → Slot K V → Option V
@@ -34,6 +42,10 @@ answer same k (Used a v) = cond (same a k) (Some v) None
 abbrev pub or_else : {V : Type 0} → Option V → Option V → Option V
 or_else (Some v) o = Some v
 or_else None o = o
+
+-- The first place from start on that passes the test, or else the first before start.
+abbrev pub nearest : {T : Type 0} → (T → Bool) → List T → ℕ → Option ℕ
+nearest p s start = or_else (option_map (λ d. start + d) (position p (drop start s))) (position p (take start s))
 
 -- The map that the places stand for: the value under k.
 abbrev pub lookup : {K V : Type 0} → (K → K → Bool) → List (Slot K V) → K → Option V
@@ -78,13 +90,6 @@ Sound same code s count = Reached same code s × (count ≡ used s)
 abbrev pub Stands : {K V : Type 0} → (K → K → Bool) → (K → ℕ) → List (Slot K V) → K → Option (Spot V) → Type 0
 Stands same code s k (Some x) = (x.at < length s) × (slice_index_or s x.at Empty ≡ Used k x.value)
 Stands same code s k None = Reached same code s → (j : ℕ) → j < length s → answer same k (slice_index_or s j Empty) ≡ None
-
--- The nearest place from start on, going round, that holds no key, if there is one.
-abbrev pub Vacant : {K V : Type 0} → List (Slot K V) → ℕ → Option ℕ → Type 0
-Vacant s start (Some p) =
-    (p < length s) × (weight (slice_index_or s p Empty) ≡ 0)
-    × ((d : ℕ) × (d < length s) × (p ≡ around (length s) start d) × ((e : ℕ) → e < d → weight (slice_index_or s (around (length s) start e) Empty) ≡ 1))
-Vacant s start None = (e : ℕ) → e < length s → weight (slice_index_or s (around (length s) start e) Empty) ≡ 1
 
 -- The map of t is that of s, except that it has o under k.
 abbrev pub With : {K V : Type 0} → (K → K → Bool) → List (Slot K V) → List (Slot K V) → K → Option V → Type 0

@@ -1,12 +1,11 @@
-ghost use Rattle.std.specs.Prelude.{◌≡◌, ◌<◌, true, false, length};
-ghost use Rattle.table.specs.Slots.{home, Reached, Stands, Vacant, lookup, weight, Put, Removed, Tidied};
-ghost use Rattle.table.specs.declared.slot.Slot.TheVariants.{Empty, Freed};
+ghost use Rattle.std.specs.Prelude.{◌≡◌, ◌<◌, length};
+ghost use Rattle.table.specs.Slots.{home, Reached, Stands, lookup, stops, vacates, nearest, Put, Removed, Tidied};
 
-use crate::seek::{next, seek};
+use crate::seek::{nearest, next, prev};
 use crate::slot::{Key, Slot, Spot};
 
 /// There is no place for another key.
-#[derive(Clone, Copy)]
+#[derive(Clone, Copy, Debug, PartialEq, Eq)]
 pub struct Full;
 
 /// The place where the search for `k` begins, of `n`.
@@ -18,60 +17,44 @@ pub(crate) fn home_of<K: Key>(k: K, n: usize) -> usize
     k.hash() as usize % n
 }
 
-/// Whether a key stands at the place.
-pub(crate) fn is_used<K: Copy, V: Copy>(x: Slot<K, V>) -> bool
-    ensures { elim result [ true ↦ weight x ≡ 1 | false ↦ weight x ≡ 0 ] }
+/// The nearest place from `start` on, going round, at which the search for `k` ends.
+fn seek<K: Key, V: Copy>(slots: &[Slot<K, V>], start: usize, k: K) -> Option<usize>
+    requires { start < length slots.now }
+    ensures { result ≡ nearest (stops K.PartialEq.eq k) slots.now start }
 {
-    match x {
-        Slot::Used(_, _) => true,
-        _ => false,
-    }
+    nearest(slots, start, &|x: &Slot<K, V>| x.is_stop(k))
 }
 
 /// The nearest place from `start` on, going round, that holds no key.
-pub(crate) fn vacant<K: Copy, V: Copy>(slots: &[Slot<K, V>], start: usize) -> Option<usize>
+fn vacant<K: Copy, V: Copy>(slots: &[Slot<K, V>], start: usize) -> Option<usize>
     requires { start < length slots.now }
-    ensures { Vacant slots.now start result }
+    ensures { result ≡ nearest vacates slots.now start }
 {
-    let n = slots.len();
-    let mut at = start;
-    for d in 0..n {
-        if !is_used(slots[at]) {
-            return Some(at);
-        }
-        at = next(at, n);
-    }
-    None
+    nearest(slots, start, &|x: &Slot<K, V>| x.is_vacant())
 }
 
 /// Where `k` stands, with its value.
 pub(crate) fn place<K: Key, V: Copy>(slots: &[Slot<K, V>], k: K) -> Option<Spot<V>>
-    ensures { Stands K.Key.same K.Key.code slots.now k result }
+    ensures { Stands K.PartialEq.eq K.Key.code slots.now k result }
 {
-    let n = slots.len();
-    if n == 0 {
+    if slots.is_empty() {
         return None;
     }
-    match seek(slots, home_of(k, n), k) {
-        Some(p) => {
-            let x = slots[p];
-            match x {
-                Slot::Used(_, v) => Some(Spot { at: p, value: v }),
-                _ => None,
-            }
-        }
-        None => None,
+    let Some(at) = seek(slots, home_of(k, slots.len()), k) else {
+        return None;
+    };
+    let slot = slots[at];
+    match slot {
+        Slot::Used(_, value) => Some(Spot { at, value }),
+        _ => None,
     }
 }
 
 /// The value under `k`.
 pub(crate) fn get_in<K: Key, V: Copy>(slots: &[Slot<K, V>], k: K) -> Option<V>
-    ensures { Reached K.Key.same K.Key.code slots.now → result ≡ lookup K.Key.same slots.now k }
+    ensures { Reached K.PartialEq.eq K.Key.code slots.now → result ≡ lookup K.PartialEq.eq slots.now k }
 {
-    match place(slots, k) {
-        Some(x) => Some(x.value),
-        None => None,
-    }
+    place(slots, k).map(|x| x.value)
 }
 
 /// Puts `v` under `k` and answers what stood there; only a new key is refused, and only where each place has one.
@@ -80,67 +63,34 @@ pub(crate) fn put_in<K: Key, V: Copy>(
     k: K,
     v: V,
 ) -> Result<Option<V>, Full>
-    ensures reached { Reached K.Key.same K.Key.code slots.old → Reached K.Key.same K.Key.code slots.new }
-    ensures done { Reached K.Key.same K.Key.code slots.old → Put K.Key.same slots.old slots.new k v result }
+    ensures reached { Reached K.PartialEq.eq K.Key.code slots.old → Reached K.PartialEq.eq K.Key.code slots.new }
+    ensures done { Reached K.PartialEq.eq K.Key.code slots.old → Put K.PartialEq.eq slots.old slots.new k v result }
 {
     if let Some(x) = place(slots, k) {
         slots[x.at] = Slot::Used(k, v);
         return Ok(Some(x.value));
     }
-    let n = slots.len();
-    if n == 0 {
+    if slots.is_empty() {
         return Err(Full);
     }
-    match vacant(slots, home_of(k, n)) {
-        Some(p) => {
-            slots[p] = Slot::Used(k, v);
-            Ok(None)
-        }
-        None => Err(Full),
-    }
-}
-
-/// Whether the place was freed.
-pub(crate) fn is_freed<K: Copy, V: Copy>(x: Slot<K, V>) -> bool
-    ensures { result ≡ true → x ≡ Freed }
-{
-    match x {
-        Slot::Freed => true,
-        _ => false,
-    }
-}
-
-/// Whether the place is empty.
-pub(crate) fn is_empty<K: Copy, V: Copy>(x: Slot<K, V>) -> bool
-    ensures { result ≡ true → x ≡ Empty }
-{
-    match x {
-        Slot::Empty => true,
-        _ => false,
-    }
-}
-
-/// The place before `at`, going round `n` places.
-pub(crate) fn prev(at: usize, n: usize) -> usize
-    requires { at < n }
-    ensures { result < n }
-{
-    if at == 0 { n - 1 } else { at - 1 }
+    let Some(p) = vacant(slots, home_of(k, slots.len())) else {
+        return Err(Full);
+    };
+    slots[p] = Slot::Used(k, v);
+    Ok(None)
 }
 
 /// Makes freed places empty again, from `p` backwards, as long as an empty place follows.
 pub(crate) fn tidy<K: Key, V: Copy>(slots: &mut [Slot<K, V>], p: usize)
     requires { p < length slots.old }
-    ensures { Reached K.Key.same K.Key.code slots.old → Tidied K.Key.same K.Key.code slots.old slots.new }
+    ensures { Reached K.PartialEq.eq K.Key.code slots.old → Tidied K.PartialEq.eq K.Key.code slots.old slots.new }
 {
     let n = slots.len();
     let mut at = p;
+    // The places go round, each beside the one after it: a chain of two reversed ranges is no plainer.
     for turn in 0..n {
         let after = next(at, n);
-        if !is_freed(slots[at]) {
-            return;
-        }
-        if !is_empty(slots[after]) {
+        if !slots[at].is_freed() || !slots[after].is_empty() {
             return;
         }
         // No way to a key leads through this place, and the search for a missing key ends sooner at an empty one.
@@ -151,15 +101,13 @@ pub(crate) fn tidy<K: Key, V: Copy>(slots: &mut [Slot<K, V>], p: usize)
 
 /// Takes `k` out and answers the value that stood under it.
 pub(crate) fn remove_in<K: Key, V: Copy>(slots: &mut [Slot<K, V>], k: K) -> Option<V>
-    ensures reached { Reached K.Key.same K.Key.code slots.old → Reached K.Key.same K.Key.code slots.new }
-    ensures done { Reached K.Key.same K.Key.code slots.old → Removed K.Key.same slots.old slots.new k result }
+    ensures reached { Reached K.PartialEq.eq K.Key.code slots.old → Reached K.PartialEq.eq K.Key.code slots.new }
+    ensures done { Reached K.PartialEq.eq K.Key.code slots.old → Removed K.PartialEq.eq slots.old slots.new k result }
 {
-    match place(slots, k) {
-        Some(x) => {
-            slots[x.at] = Slot::Freed;
-            tidy(slots, x.at);
-            Some(x.value)
-        }
-        None => None,
-    }
+    let Some(x) = place(slots, k) else {
+        return None;
+    };
+    slots[x.at] = Slot::Freed;
+    tidy(slots, x.at);
+    Some(x.value)
 }

@@ -1,16 +1,27 @@
-ghost use Rattle.std.specs.Prelude.{◌≡◌, ◌<◌, length};
-ghost use Rattle.table.specs.Slots.{around, stops, Nearest};
+ghost use Rattle.std.specs.Prelude.{◌≡◌, ◌<◌, ◌≤◌, length, Bool, position, IfSome};
+ghost use Rattle.table.specs.Slots.{around, nearest};
 
-use crate::slot::{Key, Slot};
-
-/// Whether the search for `k` ends at the place `x`.
-pub(crate) fn is_stop<K: Key, V: Copy>(x: Slot<K, V>, k: K) -> bool
-    ensures { result ≡ stops K.Key.same k x }
+/// The first item that passes a test.
+fn first<T, F: Fn(&T) -> bool>(items: &[T], test: &F) -> Option<usize>
+    requires { F.IsAlwaysCallable test.now }
+    ensures within { IfSome result (λ d. d < length items.now) }
+    ensures first { (p : T → Bool) → ((x : _) (b : Bool) → F.post test.now x b → b ≡ p x.now) → result ≡ position p items.now }
 {
-    match x {
-        Slot::Empty => true,
-        Slot::Freed => false,
-        Slot::Used(a, _) => a.same_as(k),
+    items.iter().position(|x| test(x))
+}
+
+/// The nearest place from `start` on, going round, that passes a test.
+pub(crate) fn nearest<T, F: Fn(&T) -> bool>(items: &[T], start: usize, test: &F) -> Option<usize>
+    requires within { start ≤ length items.now }
+    requires callable { F.IsAlwaysCallable test.now }
+    ensures { (p : T → Bool) → ((x : _) (b : Bool) → F.post test.now x b → b ≡ p x.now) → result ≡ nearest p items.now start }
+{
+    // That the sum below fits its type is known where the length is read.
+    let _n = items.len();
+    let (front, back) = items.split_at(start);
+    match first(back, test) {
+        Some(d) => Some(start + d),
+        None => first(front, test),
     }
 }
 
@@ -23,18 +34,10 @@ pub(crate) fn next(at: usize, n: usize) -> usize
     if at + 1 < n { at + 1 } else { 0 }
 }
 
-/// The nearest place from `start` on, going round, at which the search for `k` ends.
-pub(crate) fn seek<K: Key, V: Copy>(slots: &[Slot<K, V>], start: usize, k: K) -> Option<usize>
-    requires { start < length slots.now }
-    ensures { Nearest K.Key.same slots.now start k result }
+/// The place before `at`, going round `n` places.
+pub(crate) fn prev(at: usize, n: usize) -> usize
+    requires { at < n }
+    ensures { result < n }
 {
-    let n = slots.len();
-    let mut at = start;
-    for d in 0..n {
-        if is_stop(slots[at], k) {
-            return Some(at);
-        }
-        at = next(at, n);
-    }
-    None
+    if at == 0 { n - 1 } else { at - 1 }
 }

@@ -1,31 +1,29 @@
 ghost use Rattle.std.specs.Prelude.{◌≡◌, length};
-ghost use Rattle.table.specs.Slots.{Reached, Sound, lookup, used, Put, Removed, Cleared};
+ghost use Rattle.table.specs.Slots.{Reached, lookup, used, Put, Removed, Cleared};
 
 use crate::ops::{Full, get_in, put_in, remove_in};
 use crate::slot::{Key, Slot};
 
 /// A map from keys to values over lent places, of which it counts those in use.
 #[derive(Drop)]
-pub struct Table<'a, K, V> {
+pub struct Table<'a, K: Key, V: Copy> {
     slots: &'a mut [Slot<K, V>],
     count: usize,
+    ghost reached: { Reached K.PartialEq.eq K.Key.code slots.now },
+    ghost counted: { count ≡ used slots.now },
 }
 
 /// Makes each place empty.
 fn clear<K: Copy, V: Copy>(slots: &mut [Slot<K, V>])
     ensures { Cleared slots.new }
 {
-    for i in 0..slots.len() {
-        slots[i] = Slot::Empty;
-    }
+    slots.fill(Slot::Empty);
 }
 
 impl<'a, K: Key, V: Copy> Table<'a, K, V> {
     /// An empty table over all of `slots`, whatever they held.
     pub fn new(slots: &'a mut [Slot<K, V>]) -> Table<'a, K, V>
         ensures cleared { Cleared result.slots.now }
-        ensures reached { Reached K.Key.same K.Key.code result.slots.now }
-        ensures counted { result.count ≡ used result.slots.now }
         ensures empty { result.count ≡ 0 }
         ensures same_size { length result.slots.now ≡ length slots.old }
     {
@@ -42,38 +40,30 @@ impl<'a, K: Key, V: Copy> Table<'a, K, V> {
 
     /// The value under `k`.
     pub fn get(&self, k: K) -> Option<V>
-        ensures { Reached K.Key.same K.Key.code self.now.slots.now → result ≡ lookup K.Key.same self.now.slots.now k }
+        ensures { result ≡ lookup K.PartialEq.eq self.now.slots.now k }
     {
         get_in(self.slots, k)
     }
 
     /// Puts `v` under `k` and answers what stood there; only a new key is refused, and only by a full table.
     pub fn put(&mut self, k: K, v: V) -> Result<Option<V>, Full>
-        ensures reached { Sound K.Key.same K.Key.code self.old.slots.now self.old.count → Reached K.Key.same K.Key.code self.new.slots.now }
-        ensures counted { Sound K.Key.same K.Key.code self.old.slots.now self.old.count → self.new.count ≡ used self.new.slots.now }
         ensures long { length self.new.slots.now ≡ length self.old.slots.now }
-        ensures done { Sound K.Key.same K.Key.code self.old.slots.now self.old.count → Put K.Key.same self.old.slots.now self.new.slots.now k v result }
+        ensures done { Put K.PartialEq.eq self.old.slots.now self.new.slots.now k v result }
     {
         let r = put_in(self.slots, k, v);
         if let Ok(None) = r {
-            // A sound table had room for the new key, so that this never saturates there.
-            self.count = self.count.saturating_add(1);
+            self.count += 1;
         }
         r
     }
 
     /// Takes `k` out and answers the value that stood under it.
     pub fn remove(&mut self, k: K) -> Option<V>
-        ensures reached { Sound K.Key.same K.Key.code self.old.slots.now self.old.count → Reached K.Key.same K.Key.code self.new.slots.now }
-        ensures counted { Sound K.Key.same K.Key.code self.old.slots.now self.old.count → self.new.count ≡ used self.new.slots.now }
         ensures long { length self.new.slots.now ≡ length self.old.slots.now }
-        ensures done { Sound K.Key.same K.Key.code self.old.slots.now self.old.count → Removed K.Key.same self.old.slots.now self.new.slots.now k result }
+        ensures done { Removed K.PartialEq.eq self.old.slots.now self.new.slots.now k result }
     {
-        let r = remove_in(self.slots, k);
-        if let Some(_) = r {
-            // A sound table counted the key, so that this never saturates there.
-            self.count = self.count.saturating_sub(1);
-        }
-        r
+        let v = remove_in(self.slots, k)?;
+        self.count -= 1;
+        Some(v)
     }
 }

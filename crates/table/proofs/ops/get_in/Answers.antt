@@ -1,12 +1,9 @@
-use Rattle.std.proofs.Common.{sym}
-use Rattle.table.proofs.Lookups.{lookup_absent}
-use Rattle.table.proofs.Tables.{spread, stands_lookup}
+use Rattle.std.proofs.Common.{◌≡◌, ◌∙◌, rules}
+use Rattle.std.specs.Option.{option_map}
+use Rattle.table.proofs.Tables.{stands_answer}
 use Rattle.table.proofs.ops.get_in.Goals as goal
 
-pub returns-in-Some : goal.returns-in-Some
-returns-in-Some g c h =
-    let e = c.in-Some.ensures in
-    sym (stands_lookup g.K.Key.same g.met.K.Key.exact g.met.K.Key.alike g.K.Key.code c.args.slots.now c.args.k _ _ (spread _ _ _ h) e.0 e.1)
-
-pub returns-in-None : goal.returns-in-None
-returns-in-None g c h = sym (lookup_absent g.K.Key.same c.args.slots.now c.args.k (c.in-None.ensures h))
+pub returns : goal.returns
+returns g c h =
+    let e : c.map.result ≡ option_map (λ x. x.value) c.place.result = search rules in
+    e ∙ stands_answer g.K.PartialEq.eq g.met.K.Key.exact g.met.K.Eq.laws.refl g.K.Key.code c.args.slots.now c.args.k c.place.result c.place.ensures h

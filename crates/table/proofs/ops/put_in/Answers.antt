@@ -1,39 +1,26 @@
-use Rattle.std.proofs.Common.{ℕ, Some, refl, subst, arith}
+use Rattle.std.proofs.Common.{Some, None, subst, ◌<◌, length}
 use Rattle.table.specs.declared.ops.Full.{Full}
-use Rattle.table.specs.Slots.{Vacant}
-use Rattle.table.proofs.Lookups.{lookup_absent, used_full}
+use Rattle.table.specs.declared.slot.Slot.TheVariants.{Empty}
+use Rattle.table.specs.Slots.{vacates}
+use Rattle.table.proofs.Searches.{round_is}
 use Rattle.table.proofs.Tables.{put_known, put_new, put_full}
 use Rattle.table.proofs.ops.put_in.Goals as goal
 
 pub returns-in-Some : goal.returns-in-Some
 returns-in-Some g c =
-    let s = c.args.slots.now in
     let e = c.in-Some.ensures in
-    let w = put_known g.K.Key.same g.met.K.Key.exact g.met.K.Key.alike Full g.K.Key.code s c.args.k c.args.v c.in-Some.x.value c.in-Some.x.at e.0 e.1 in
+    let w = put_known g.K.PartialEq.eq g.met.K.Key.exact g.met.K.Eq.laws.refl Full g.K.Key.code c.args.slots.now c.args.k c.args.v c.in-Some.x.value c.in-Some.x.at e.0 e.1 in
     record { reached = λ h. (w h).0; done = λ h. (w h).1 }
 
-pub returns-then-n-eq0 : goal.returns-then-n-eq0
-returns-then-n-eq0 g c =
+pub returns : goal.returns
+returns g c =
     let s = c.args.slots.now in
-    record {
-      reached = λ h. h;
-      done = λ h. (refl {a = s}, lookup_absent g.K.Key.same s c.args.k (c.in_default.ensures h), used_full s (λ j l. absurd (omega arith)));
-    }
-
-pub returns-in-Some-vacant : goal.returns-in-Some-vacant
-returns-in-Some-vacant g c =
-    let s = c.args.slots.now in
-    let P : ℕ → Type 0 = λ o. Vacant s o (Some c.in-Some-vacant.p) in
-    let vac = subst P c.home_of.ensures.is c.in-Some-vacant.ensures in
-    let w = put_new g.K.Key.same g.met.K.Key.exact g.met.K.Key.alike Full g.K.Key.code s c.args.k c.args.v c.in-Some-vacant.p c.in_default.ensures vac in
+    let vac = round_is vacates Empty s c.home_of.result _ (Some c.in-Some-vacant.p) c.home_of.ensures.is c.home_of.ensures.below c.in-Some-vacant.ensures in
+    let w = put_new g.K.PartialEq.eq g.met.K.Key.exact g.met.K.Eq.laws.refl Full g.K.Key.code s c.args.k c.args.v c.in-Some-vacant.p c.in_default.ensures vac in
     record { reached = λ h. (w h).0; done = λ h. (w h).1 }
 
-pub returns-in-None : goal.returns-in-None
-returns-in-None g c =
-    record {
-      reached = λ h. h;
-      done =
-          λ h.
-          put_full g.K.Key.same g.met.K.Key.exact g.met.K.Key.alike {E = Full} c.args.slots.now c.args.k c.args.v c.home_of.result (record {})
-          c.home_of.ensures.below (c.in_default.ensures h) c.in-None.ensures;
-    }
+pub returns-in_default-vacant-clause-done : goal.returns-in_default-vacant-clause-done
+returns-in_default-vacant-clause-done g c h =
+    let s = c.args.slots.now in
+    let vac = round_is vacates Empty s c.home_of.result _ None c.home_of.ensures.is c.home_of.ensures.below c.in_default-vacant.ensures in
+    put_full g.K.PartialEq.eq g.met.K.Key.exact g.met.K.Eq.laws.refl {E = Full} s c.args.k c.args.v _ (record {}) (subst (λ o. o < length s) c.home_of.ensures.is c.home_of.ensures.below) (c.in_default.ensures h) vac

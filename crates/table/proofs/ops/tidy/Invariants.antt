@@ -3,4 +3,4 @@ use Rattle.table.specs.Slots.{Reached, Tidied}
 use Rattle.table.proofs.ops.tidy.Given as goal
 
 abbrev pub invariant-loop-turn : goal.invariant-loop-turn
-invariant-loop-turn g l = (l.at < length l.initial.slots) × (Reached g.K.Key.same g.K.Key.code l.initial.slots → Tidied g.K.Key.same g.K.Key.code l.initial.slots l.slots)
+invariant-loop-turn g l = (l.at < length l.initial.slots) × (Reached g.K.PartialEq.eq g.K.Key.code l.initial.slots → Tidied g.K.PartialEq.eq g.K.Key.code l.initial.slots l.slots)
