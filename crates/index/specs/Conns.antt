@@ -1,7 +1,7 @@
 -- What the places of connections mean.
 use Rattle.std.specs.Prelude.{ℕ, false, cond, List, [], map, take, replicate, Some, None, Option, slice_index_or, refl}
 use Rattle.std.proofs.Common.{lit≤}
-use Rattle.records.specs.declared.address.SocketAddr.TheVariants.{V4}
+use Rattle.std.specs.declared.net.socket_addr.SocketAddr.TheVariants.{V4}
 use Rattle.records.specs.Ids.{no_id, empty}
 use Rattle.model.specs.Records.{Id}
 use Rattle.model.specs.Endpoint.{Conn}

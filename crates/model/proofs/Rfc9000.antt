@@ -1,11 +1,11 @@
 -- `handle` and `refuse` answer as RFC 9000 asks.
-use Rattle.std.proofs.Common.{◌≡◌, ℕ, zero, suc, ◌+◌, ◌-◌, ◌/◌, ◌%◌, ◌<◌, ◌≤◌, min, Bool, true, false, cond, not, ◌||◌, eqb, ltb, leb, ◌⊎◌, List, [], ◌∷◌, ◌++◌, length, get_or, take, Some, None, Option, sym, refl, ap, ◌∙◌, ap₂, inl, inr, mod-lt, arith, length-append, length-drop, take-append-drop, length-take}
+use Rattle.std.proofs.Common.{◌≡◌, ℕ, zero, suc, ◌+◌, ◌-◌, ◌/◌, ◌%◌, ◌<◌, ◌≤◌, min, Bool, true, false, cond, not, ◌||◌, eqb, ltb, leb, ◌⊎◌, List, [], ◌∷◌, ◌++◌, length, get_or, take, Some, None, Option, sym, refl, ap, ◌∙◌, ap₂, inl, inr, mod-lt, arith, length-append, length-drop, take-append-drop, length-take, Ok, Err}
 use Rattle.std.proofs.lemmas.List.{drop_at}
 use Rattle.std.proofs.lemmas.Bool.{both_ways, not-true, not-false, ltb-true, ltb-false, leb-true, leb-false, le-leb, lt-leb, eqb-true, eq-eqb, and_parts, and_cases, or_cases, or_parts, cond_both}
 use Rattle.records.specs.Ids.{id_bytes}
 use Rattle.supply.specs.Meaning.{token_of}
-use Rattle.supply.specs.declared.answers.Opens.{Opens}
-use Rattle.supply.specs.declared.answers.Opens.TheVariants.{Closed, ReservedBits, BadToken, Open}
+use Rattle.supply.specs.Meaning.{Opens}
+use Rattle.supply.specs.declared.answers.Unopened.TheVariants.{Closed, ReservedBits, BadToken}
 use Rattle.model.specs.Records.{Id, Token, empty, Sender, Datagram, size, is_initial, is_short, is_early, last_16, sender_of, Incoming, refused}
 use Rattle.model.specs.Endpoint.{Waiting, Target, to_attempt, to_connection, State, Config, Supply, Outcome, row, first_cause, or_else, toward, held_route, initial_route, pair_route, sender_route, route}
 use Rattle.model.specs.Calls.{gives, number_of, marked, reset_by, stray_causes, stray_by, stray, close_now, open_by, bad_length, first_causes, first_by, first_packet, keep_by, handle_by, fits, brought, refuse_of, sealed}
@@ -200,10 +200,10 @@ module _ (c : Config) (u : Supply) (token : Id → Token) (s : State) (d : Datag
           ]
 
       open_asked : LongEnough c.len d → (o : Opens) → c.door.opens d ≡ o → Asked (open_by u s d o)
-      open_asked long Closed e = tt
-      open_asked long ReservedBits e = tt
-      open_asked long BadToken e = record { first = first; back = record { addresses = refl; version = refl; peer = refl }; code = inr (refl, e) }
-      open_asked long (Open o) e = (first, long)
+      open_asked long (Err Closed) e = tt
+      open_asked long (Err ReservedBits) e = tt
+      open_asked long (Err BadToken) e = record { first = first; back = record { addresses = refl; version = refl; peer = refl }; code = inr (refl, e) }
+      open_asked long (Ok o) e = (first, long)
 
       length_asked : Asked (cond (bad_length c d) (close_now u s 0x0a d) (open_by u s d (c.door.opens d)))
       length_asked = cond_both (bad_length c d) (close_now u s 0x0a d) (open_by u s d (c.door.opens d)) Asked

@@ -1,12 +1,12 @@
 -- Routing is sound after every list of calls.
-use Rattle.std.proofs.Common.{◌≡◌, ℕ, suc, ◌-◌, ◌<◌, ◌≤◌, Bool, true, false, cond, eqb, leb, List, [], ◌∷◌, length, Some, None, Option, sym, refl, ap, ◌∙◌, subst, ap₂, arith}
+use Rattle.std.proofs.Common.{◌≡◌, ℕ, suc, ◌-◌, ◌<◌, ◌≤◌, Bool, true, false, cond, eqb, leb, List, [], ◌∷◌, length, Some, None, Option, sym, refl, ap, ◌∙◌, subst, ap₂, arith, Ok, Err}
 use Rattle.std.proofs.lemmas.Bool.{cond_both, both_ways, leb-false}
 use Rattle.model.specs.Records.{Id, Token, FourTuple, Sender, Settings, Datagram, size, sender_of, is_initial, is_early, Incoming, Event, need, retire, reset_token, drained, Answer, refused, delivered, stored, opened, closing, reset, accepted, failed, ignored, issued, done}
 use Rattle.supply.specs.Meaning.{token_of}
-use Rattle.supply.specs.declared.answers.Opens.{Opens as Opened}
-use Rattle.supply.specs.declared.answers.Opens.TheVariants.{Closed, ReservedBits, BadToken, Open}
-use Rattle.supply.specs.declared.answers.Greets.{Greets}
-use Rattle.supply.specs.declared.answers.Greets.TheVariants.{Yes, TransportError, Other}
+use Rattle.supply.specs.Meaning.{Opens as Opened}
+use Rattle.supply.specs.declared.answers.Unopened.TheVariants.{Closed, ReservedBits, BadToken}
+use Rattle.supply.specs.Meaning.{Greets}
+use Rattle.supply.specs.declared.answers.HandshakeError.TheVariants.{TransportError, Other}
 use Rattle.model.specs.Endpoint.{Conn, Waiting, Target, to_attempt, to_connection, State, Config, Supply, Outcome, or_else, toward, held_route, initial_route, pair_route, sender_route, route, first_cause, Search, none_left, found, several, is_held, with_spent, with_retired, conn_less}
 use Rattle.model.specs.Calls
 use Rattle.model.specs.Calls.{gives, reset_by, stray_by, stray, open_by, bad_length, close_now, first_causes, first_by, first_packet, keep_by, handle_by, fits, handle, sealed, next_free, in_slot, brought, Room}
@@ -225,10 +225,10 @@ module _ (E : Endpoint) (calls : List Call) where
     new_stray None = new_reset (leb (size d - 17) 26)
 
     new_open : 0 < length st.free_slots → (o : Opened) → NewBy (open_by sp st d o)
-    new_open some Closed = tt
-    new_open some ReservedBits = tt
-    new_open some BadToken = tt
-    new_open some (Open o) = slot_free some
+    new_open some (Err Closed) = tt
+    new_open some (Err ReservedBits) = tt
+    new_open some (Err BadToken) = tt
+    new_open some (Ok o) = slot_free some
 
     new_first : (o : Option ℕ) → first_cause (first_causes cf st d) ≡ o → NewBy (first_by cf sp st d o)
     new_first (Some n) e = tt
@@ -249,9 +249,9 @@ module _ (E : Endpoint) (calls : List Call) where
 
   module _ (v : Waiting) where
     new_greet : 0 < length st.free_handles → (xs : List Id) (n : ℕ) (g : Greets) → NewBy (Calls.greet_by cf sp st v (next_free st.free_handles) xs n g)
-    new_greet some xs n Yes = handle_free some
-    new_greet some xs n (TransportError code) = tt
-    new_greet some xs n Other = tt
+    new_greet some xs n (Ok tt) = handle_free some
+    new_greet some xs n (Err (TransportError code)) = tt
+    new_greet some xs n (Err Other) = tt
 
     new_connect : 0 < length st.free_handles → (r : Search (List Id)) → NewBy (Calls.connect_by cf sp st v r)
     new_connect some (none_left n) = tt
@@ -371,9 +371,9 @@ module _ (E : Endpoint) (calls : List Call) where
     FirstBy o = First a o.answer
 
     first_greet : (v : Waiting) → Tied a v → (h : ℕ) (xs : List Id) (n : ℕ) (g : Greets) → FirstBy (Calls.greet_by (cf E calls) (sp E calls) (st E calls) v h xs n g)
-    first_greet v t h xs n Yes = (t.0, v.slot, v.first, v.kept, t.1, t.2, refl)
-    first_greet v t h xs n (TransportError code) = tt
-    first_greet v t h xs n Other = tt
+    first_greet v t h xs n (Ok tt) = (t.0, v.slot, v.first, v.kept, t.1, t.2, refl)
+    first_greet v t h xs n (Err (TransportError code)) = tt
+    first_greet v t h xs n (Err Other) = tt
 
     first_connect : (v : Waiting) → Tied a v → (r : Search (List Id)) → FirstBy (Calls.connect_by (cf E calls) (sp E calls) (st E calls) v r)
     first_connect v t (none_left n) = tt

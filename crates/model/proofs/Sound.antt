@@ -9,7 +9,7 @@ use Rattle.model.specs.Records.{Id, empty, FourTuple, same_pair, Sender, same_se
 use Rattle.model.specs.Endpoint.{Conn, Waiting, Target, to_attempt, to_connection, State, Config, put, put_all, sequenced, second, new_state, counting, is_exhausted, saturated, add_kept, with_kept, with_opened, without, with_spent, with_reset, with_conn, new_conn, with_accepted, forget_sender, with_drained, conn_holding, with_issued, conn_less, with_retired, with_sender}
 use Rattle.model.specs.Calls.{in_slot, next_free}
 use Rattle.model.specs.Words.{Among}
-use Rattle.records.specs.Same.{same_pair_decides, same_sender_decides}
+use Rattle.records.proofs.Same.{same_pair_decides, same_sender_decides}
 use Rattle.model.proofs.Keys.{up_read, put_read, among_kept, kept_among}
 use Rattle.model.proofs.Naming.{HeldIn, count_in, held_in, Naming, Apart, none_some, some_same, new_naming, issue_naming, drain_naming, retire_naming}
 

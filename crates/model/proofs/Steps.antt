@@ -1,13 +1,13 @@
 -- Each of the five calls keeps the state sound, and what is told in agreement with it.
-use Rattle.std.proofs.Common.{◌≡◌, ℕ, suc, ◌+◌, ◌-◌, ◌<◌, Bool, true, false, cond, not, ◌||◌, eqb, leb, ◌⊎◌, List, [], ◌∷◌, ◌++◌, length, Some, None, Option, sym, refl, ap, ◌∙◌, subst, ap₂, subst₂, inl, inr}
+use Rattle.std.proofs.Common.{◌≡◌, ℕ, suc, ◌+◌, ◌-◌, ◌<◌, Bool, true, false, cond, not, ◌||◌, eqb, leb, ◌⊎◌, List, [], ◌∷◌, ◌++◌, length, Some, None, Option, sym, refl, ap, ◌∙◌, subst, ap₂, subst₂, inl, inr, Ok, Err}
 use Rattle.std.specs.Map.{update}
 use Rattle.std.proofs.lemmas.Bool.{cond_both, both_ways, eqb-true, eq-eqb, eqb-false, ne_eqb, leb-false, not-true, or_parts, or_from, cases_eq}
 use Rattle.std.proofs.lemmas.Bool.Decides.{Decides-eqb}
 use Rattle.model.specs.Records.{Id, Token, empty, Sender, Settings, Datagram, size, Kind, Initial, Handshake, ZeroRtt, Short, Retry, VersionNegotiate, is_initial, is_early, Grant, Incoming, Event, need, retire, reset_token, drained, Answer, refused, delivered, closing, failed, ignored, done}
-use Rattle.supply.specs.declared.answers.Opens.{Opens as Opened}
-use Rattle.supply.specs.declared.answers.Opens.TheVariants.{Closed, ReservedBits, BadToken, Open}
-use Rattle.supply.specs.declared.answers.Greets.{Greets}
-use Rattle.supply.specs.declared.answers.Greets.TheVariants.{Yes, TransportError, Other}
+use Rattle.supply.specs.Meaning.{Opens as Opened}
+use Rattle.supply.specs.declared.answers.Unopened.TheVariants.{Closed, ReservedBits, BadToken}
+use Rattle.supply.specs.Meaning.{Greets}
+use Rattle.supply.specs.declared.answers.HandshakeError.TheVariants.{TransportError, Other}
 use Rattle.model.specs.Endpoint.{Conn, Waiting, Target, to_attempt, to_connection, State, Config, Supply, Outcome, first_cause, is_none, is_held, sequenced, grants, Search, none_left, found, several, without, with_spent, new_conn, with_accepted, with_drained, conn_holding, conn_less, with_retired, with_sender, or_else, held_route, initial_route, route}
 use Rattle.model.specs.Calls
 use Rattle.model.specs.Calls.{gives, next_free, in_slot, brought, held_at, sealed, sealed_grants, Room}
@@ -123,11 +123,11 @@ module _ (U : Setup) (token : Id → Token) (w : World) (told : List Entry) (n :
     closing_good code = record { sound = S; agrees = quiet (told_of call (Calls.close_now u s code d)) (unsaid _ (λ h. refl) (λ h. refl) (λ h. refl)) (λ j. refl) refl }
 
     open_good : 0 < length s.free_slots → (empty d.dst ≡ false → s.initial d.dst ≡ None) → (o : Opened) → Good call (Calls.open_by u s d o)
-    open_good some off Closed = refused_good call (λ h. refl) 10
-    open_good some off ReservedBits = refused_good call (λ h. refl) 11
-    open_good some off BadToken = closing_good 0x0b
-    open_good some off (Open o) =
-        let e : Entry = told_of call (Calls.open_by u s d (Open o)) in
+    open_good some off (Err Closed) = refused_good call (λ h. refl) 10
+    open_good some off (Err ReservedBits) = refused_good call (λ h. refl) 11
+    open_good some off (Err BadToken) = closing_good 0x0b
+    open_good some off (Ok o) =
+        let e : Entry = told_of call (Calls.open_by u s d (Ok o)) in
         let v : Waiting = record { slot = next_free s.free_slots; first = d; kept = [] } in
         record {
           sound = open_sound S d some off;
@@ -223,9 +223,9 @@ module _ (U : Setup) (token : Id → Token) (w : World) (told : List Entry) (n :
           (λ z. subst (At (e ∷ told) k) (ap s.conns z ∙ was_free) (still_there e no-event g b k))
           (λ off. up_read eqb Decides-eqb s.conns h (Some (new_conn v xs)) k (At (e ∷ told) k) (λ z. absurd (off z)) (λ _. still_there e no-event g b k))
 
-      accepted_at : (i : ℕ) (k : ℕ) → At (told_of call (Calls.greet_by c u s v h xs i Yes) ∷ told) k (update eqb s.conns h (Some (new_conn v xs)) k)
+      accepted_at : (i : ℕ) (k : ℕ) → At (told_of call (Calls.greet_by c u s v h xs i (Ok tt)) ∷ told) k (update eqb s.conns h (Some (new_conn v xs)) k)
       accepted_at i k =
-          let e : Entry = told_of call (Calls.greet_by c u s v h xs i Yes) in
+          let e : Entry = told_of call (Calls.greet_by c u s v h xs i (Ok tt)) in
           let gs : List Grant = sealed_grants token (grants (sequenced 0 xs)) in
           up_read eqb Decides-eqb s.conns h (Some (new_conn v xs)) k (At (e ∷ told) k)
           (λ z. subst (λ (j : ℕ). Alive (e ∷ told) j (new_conn v xs)) (sym z)
@@ -235,20 +235,20 @@ module _ (U : Setup) (token : Id → Token) (w : World) (told : List Entry) (n :
           (λ off. at_silent e told k (silent_by e k None (none k) (ap (λ b. cond b gs []) (ne_eqb k h off)) refl (λ q. refl) refl (ap (λ b. cond b (Some v.first) None) (ne_eqb k h off))) (s.conns k) (A.at k))
 
       greet_good : (i : ℕ) (g : Greets) → Good call (Calls.greet_by c u s v h xs i g)
-      greet_good i Yes =
-          let e : Entry = told_of call (Calls.greet_by c u s v h xs i Yes) in
+      greet_good i (Ok tt) =
+          let e : Entry = told_of call (Calls.greet_by c u s v h xs i (Ok tt)) in
           record {
             sound = accepted_sound;
             agrees = record {
               at = accepted_at i;
-              placing = placing_spent told s.waiting w.slots n e j v.slot refl refl mine here (Calls.greet_by c u s v h xs i Yes).answer refl A.placing;
+              placing = placing_spent told s.waiting w.slots n e j v.slot refl refl mine here (Calls.greet_by c u s v h xs i (Ok tt)).answer refl A.placing;
             };
           }
-      greet_good i (TransportError code) =
-          let o : Outcome = Calls.greet_by c u s v h xs i (TransportError code) in
+      greet_good i (Err (TransportError code)) =
+          let o : Outcome = Calls.greet_by c u s v h xs i (Err (TransportError code)) in
           spent_good o (λ h. refl) refl refl refl refl given_up_sound refl (given_up_at (told_of call o) none (λ h. refl) (λ h. refl))
-      greet_good i Other =
-          let o : Outcome = Calls.greet_by c u s v h xs i Other in
+      greet_good i (Err Other) =
+          let o : Outcome = Calls.greet_by c u s v h xs i (Err Other) in
           spent_good o (λ h. refl) refl refl refl refl given_up_sound refl (given_up_at (told_of call o) none (λ h. refl) (λ h. refl))
 
     connect_good : 0 < length s.free_handles → (k : ℕ) (r : Search (List Id)) → SeveralFound (is_held s) k r → Good call (Calls.connect_by c u s v r)

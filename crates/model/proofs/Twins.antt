@@ -1,15 +1,16 @@
 -- One call to two endpoints, one of which saw nothing of the attempts that came to nothing.
-use Rattle.std.proofs.Common.{◌≡◌, ℕ, ◌+◌, ◌-◌, ◌*◌, ◌%◌, ◌<◌, ◌≤◌, Bool, true, false, cond, not, ◌&&◌, ◌||◌, eqb, ltb, leb, ◌⊎◌, List, [], ◌∷◌, ◌++◌, length, drop, Some, None, Option, sym, refl, ap, ◌∙◌, subst, ap₂, subst₂, inl, inr, arith}
+use Rattle.std.proofs.Common.{◌≡◌, ℕ, ◌+◌, ◌-◌, ◌*◌, ◌%◌, ◌<◌, ◌≤◌, Bool, true, false, cond, not, ◌&&◌, ◌||◌, eqb, ltb, leb, ◌⊎◌, List, [], ◌∷◌, ◌++◌, length, drop, Some, None, Option, sym, refl, ap, ◌∙◌, subst, ap₂, subst₂, inl, inr, arith, Ok, Err}
 use mathlib.Core.Path.{fun_ext}
 use Rattle.std.specs.Map.{update}
 use Rattle.std.proofs.lemmas.Bool.{cond_both, both_ways, eqb-true, eq-eqb, eqb-false, ne_eqb, leb-false, lt-leb, le-ltb, ltb-false, or_parts, or_from, or_right, cases_Bool}
-use Rattle.records.specs.Same.{same_id_decides, same_pair_decides}
+use Rattle.records.specs.Same.{same_id_decides}
+use Rattle.records.proofs.Same.{same_pair_decides}
 use Rattle.std.proofs.lemmas.Bool.Decides.{Decides-eqb}
 use Rattle.model.specs.Records.{same_id, Id, Token, empty, FourTuple, same_pair, Sender, Settings, Datagram, size, sender_of, is_initial, is_short, is_early, Opening, Incoming, Event, need, retire, reset_token, drained, Answer, refused, delivered, stored, opened, closing, reset, accepted, failed, ignored, issued, done}
-use Rattle.supply.specs.declared.answers.Opens.{Opens as Opened}
-use Rattle.supply.specs.declared.answers.Opens.TheVariants.{Closed, ReservedBits, BadToken, Open}
-use Rattle.supply.specs.declared.answers.Greets.{Greets}
-use Rattle.supply.specs.declared.answers.Greets.TheVariants.{Yes, TransportError, Other}
+use Rattle.supply.specs.Meaning.{Opens as Opened}
+use Rattle.supply.specs.declared.answers.Unopened.TheVariants.{Closed, ReservedBits, BadToken}
+use Rattle.supply.specs.Meaning.{Greets}
+use Rattle.supply.specs.declared.answers.HandshakeError.TheVariants.{TransportError, Other}
 use Rattle.model.specs.Endpoint
 use Rattle.model.specs.Endpoint.{Conn, Waiting, Target, to_attempt, to_connection, State, Config, Supply, Outcome, first_cause, put, put_all, row, sequenced, second, is_held, Search, none_left, found, several, or_else, toward, held_route, initial_route, pair_route, sender_route, route, is_exhausted, saturated, no_place, too_large, attempt_bytes, waiting_total, places_used, without, with_waiting, with_spent, with_opened, with_accepted, with_drained, new_conn, with_retired, conn_less}
 use Rattle.model.specs.Calls
@@ -325,10 +326,10 @@ module _ (doomed : ℕ → Bool) (token : Id → Token) (c : Config) (few : c.se
     )
 
     open_verdict : s.initial d.dst ≡ None → (o : Opened) → Verdict call (Calls.open_by u s d o) (Calls.open_by u₂ s₂ d o)
-    open_verdict off Closed = refusal call 10 refl
-    open_verdict off ReservedBits = refusal call 11 refl
-    open_verdict off BadToken = close_verdict 0x0b
-    open_verdict off (Open o) = opening_verdict off o (doomed n) refl
+    open_verdict off (Err Closed) = refusal call 10 refl
+    open_verdict off (Err ReservedBits) = refusal call 11 refl
+    open_verdict off (Err BadToken) = close_verdict 0x0b
+    open_verdict off (Ok o) = opening_verdict off o (doomed n) refl
 
     sums : (length us ≤ length s.waiting) × (waiting_total us ≤ waiting_total s.waiting) × (places_used us ≤ places_used s.waiting)
     sums = match_sums doomed R.match
@@ -535,9 +536,9 @@ module _ (doomed : ℕ → Bool) (token : Id → Token) (c : Config) (few : c.se
       )
 
       greet_aside : (i : ℕ) (gr : Greets) → is_accepted (Calls.greet_by c u s v h xs i gr).answer ≡ false → Aside call (Calls.greet_by c u s v h xs i gr)
-      greet_aside i Yes e = absurd (both_ways true e refl)
-      greet_aside i (TransportError code) e = given_up_aside (failed 19 (Some (Calls.close_to u i code v.first))) (i + 1) 32 refl refl
-      greet_aside i Other e = given_up_aside (failed 19 None) i 32 refl refl
+      greet_aside i (Ok tt) e = absurd (both_ways true e refl)
+      greet_aside i (Err (TransportError code)) e = given_up_aside (failed 19 (Some (Calls.close_to u i code v.first))) (i + 1) 32 refl refl
+      greet_aside i (Err Other) e = given_up_aside (failed 19 None) i 32 refl refl
 
     connect_aside : 0 < length s.free_handles → (m : ℕ) (r : Search (List Id)) → SeveralFound (is_held s) m r → is_accepted (Calls.connect_by c u s v r).answer ≡ false → Aside call (Calls.connect_by c u s v r)
     connect_aside some m (none_left i) d e = spent_aside (failed 25 None) i 0 refl refl
@@ -629,14 +630,14 @@ module _ (doomed : ℕ → Bool) (token : Id → Token) (c : Config) (few : c.se
         greet_good : (xs : List Id) (i : ℕ) (r₂ : Search (List Id)) → (((p : ℕ) → 0 ≤ p → p < i → next₂ p ≡ u.next_id p) → r₂ ≡ found xs i) →
             (gr : Greets) → c.door.greets v.first h₁ xs ≡ gr → Nothing (Calls.greet_by c u s v h₁ xs i gr) →
             Verdict accept_call (Calls.greet_by c u s v h₁ xs i gr) (Calls.connect_by c u₂ s₂ (twin v t) r₂)
-        greet_good xs i r₂ same (TransportError code) q N = absurd (N refl)
-        greet_good xs i r₂ same Other q N = absurd (N refl)
-        greet_good xs i r₂ same Yes q N =
+        greet_good xs i r₂ same (Err (TransportError code)) q N = absurd (N refl)
+        greet_good xs i r₂ same (Err Other) q N = absurd (N refl)
+        greet_good xs i r₂ same (Ok tt) q N =
             inr (
               e,
               λ w.
-                  let o : Outcome = Calls.greet_by c u s v h₁ xs i Yes in
-                  let follows : Follows accept_call o (Calls.greet_by c u₂ s₂ (twin v t) h₁ xs i Yes) = record {
+                  let o : Outcome = Calls.greet_by c u s v h₁ xs i (Ok tt) in
+                  let follows : Follows accept_call o (Calls.greet_by c u₂ s₂ (twin v t) h₁ xs i (Ok tt)) = record {
                     answer = ap {B = Answer} (λ bs. accepted h₁ (Calls.sealed_grants token (Endpoint.grants (sequenced 0 xs))) bs (v.first ∷ v.kept)) w.bytes;
                     ids = refl;
                     bytes = refl;

@@ -1,11 +1,11 @@
 -- What each of the five calls answers and leaves.
 -- Answers stand here without tokens: the signer puts them in last (`sealed`), and nothing else asks it.
-use Rattle.std.specs.Prelude.{ℕ, ◌+◌, ◌-◌, ◌*◌, ◌/◌, ◌%◌, Bool, true, false, cond, not, ◌&&◌, ◌||◌, List, [], ◌∷◌, length, Some, None, Option, ◌==◌, nat_le, nat_lt, slice_index}
+use Rattle.std.specs.Prelude.{ℕ, ◌+◌, ◌-◌, ◌*◌, ◌/◌, ◌%◌, Bool, true, false, cond, not, ◌&&◌, ◌||◌, List, [], ◌∷◌, length, Some, None, Option, ◌==◌, nat_le, nat_lt, slice_index, Ok, Err}
 use Rattle.model.specs.Records.{Id, Token, empty, Settings, Datagram, size, is_initial, is_short, well_formed, Close, Grant, Incoming, Event, need, retire, reset_token, drained, Answer, refused, delivered, stored, opened, closing, reset, accepted, failed, ignored, issued, done}
-use Rattle.supply.specs.declared.answers.Opens.{Opens}
-use Rattle.supply.specs.declared.answers.Opens.TheVariants.{Closed, ReservedBits, BadToken, Open}
-use Rattle.supply.specs.declared.answers.Greets.{Greets}
-use Rattle.supply.specs.declared.answers.Greets.TheVariants.{Yes, TransportError, Other}
+use Rattle.supply.specs.Meaning.{Opens}
+use Rattle.supply.specs.declared.answers.Unopened.TheVariants.{Closed, ReservedBits, BadToken}
+use Rattle.supply.specs.Meaning.{Greets}
+use Rattle.supply.specs.declared.answers.HandshakeError.TheVariants.{TransportError, Other}
 use Rattle.model.specs.Endpoint.{Conn, Waiting, Target, to_attempt, to_connection, State, Config, Supply, Outcome, first_cause, row, sequenced, grants, Search, none_left, found, several, is_held, is_exhausted, too_large, no_place, saturated, route, with_kept, with_opened, with_spent, with_reset, with_accepted, with_drained, new_conn, with_issued, conn_less, with_retired, with_sender}
 
 -- an answer and a state, where nothing is drawn
@@ -79,10 +79,10 @@ next_free free = slice_index free 0
 
 -- what a first datagram is answered after the door was asked: nothing is there to open, reserved bits are set, the token is invalid, or an attempt is opened
 abbrev pub open_by : Supply → State → Datagram → Opens → Outcome
-open_by u s d Closed = gives (refused 10) s
-open_by u s d ReservedBits = gives (refused 11) s
-open_by u s d BadToken = close_now u s 0x0b d
-open_by u s d (Open o) = gives (opened (next_free s.free_slots) o) (with_opened s (next_free s.free_slots) d)
+open_by u s d (Err Closed) = gives (refused 10) s
+open_by u s d (Err ReservedBits) = gives (refused 11) s
+open_by u s d (Err BadToken) = close_now u s 0x0b d
+open_by u s d (Ok o) = gives (opened (next_free s.free_slots) o) (with_opened s (next_free s.free_slots) d)
 
 -- a first identifier below 8 bytes passes only in an Initial with a token, at our own length
 abbrev pub bad_length : Config → Datagram → Bool
@@ -156,19 +156,19 @@ fail u s w n =
 
 -- the handshake greets the client, and the attempt is a connection; or it does not, and the connection is gone at once, with a close where there is a code for it
 abbrev pub greet_by : Config → Supply → State → Waiting → ℕ → List Id → ℕ → Greets → Outcome
-greet_by c u s w h xs n Yes = record {
+greet_by c u s w h xs n (Ok tt) = record {
   answer = accepted h (grants (sequenced 0 xs)) (row u.next_byte 0 32) (w.first ∷ w.kept);
   state = with_accepted c s w h xs;
   ids_drawn = n;
   bytes_drawn = 32;
 }
-greet_by c u s w h xs n (TransportError code) = record {
+greet_by c u s w h xs n (Err (TransportError code)) = record {
   answer = failed 19 (Some (close_to u n code w.first));
   state = with_drained (with_accepted c s w h xs) h (new_conn w xs);
   ids_drawn = n + 1;
   bytes_drawn = 32;
 }
-greet_by c u s w h xs n Other = record {
+greet_by c u s w h xs n (Err Other) = record {
   answer = failed 19 None;
   state = with_drained (with_accepted c s w h xs) h (new_conn w xs);
   ids_drawn = n;

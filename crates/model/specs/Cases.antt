@@ -1,11 +1,9 @@
 -- Worked cases: what the definitions come to at given numbers.
-use Rattle.std.specs.Prelude.{◌≡◌, ℕ, zero, suc, ◌+◌, ◌≤◌, Bool, true, false, List, [], ◌∷◌, ◌++◌, map, length, replicate, Some, None, Option, slice_index, refl}
+use Rattle.std.specs.Prelude.{◌≡◌, ℕ, zero, suc, ◌+◌, ◌≤◌, Bool, true, false, List, [], ◌∷◌, ◌++◌, map, length, replicate, Some, None, Option, slice_index, refl, Ok}
 use Rattle.std.proofs.Common.{le_of_suc-le-suc, not-suc-le-zero, lit≤, lit<}
-use Rattle.records.specs.declared.address.SocketAddr.TheVariants.{V4}
+use Rattle.std.specs.declared.net.socket_addr.SocketAddr.TheVariants.{V4}
 use Rattle.records.specs.Ids.{no_id, zeros_at}
 use Rattle.supply.specs.Meaning.{Generator, DoorAnswers}
-use Rattle.supply.specs.declared.answers.Opens.TheVariants.{Open}
-use Rattle.supply.specs.declared.answers.Greets.TheVariants.{Yes}
 use Rattle.model.specs.Records.{Id, FourTuple, Settings, Kind, Initial, ZeroRtt, Short, Datagram, Incoming, need, retire, reset_token, drained, Answer, refused, delivered, stored, opened, closing, reset, accepted, failed, ignored, issued, done, written}
 use Rattle.model.specs.Endpoint.{State, Config, Supply, Outcome, new_state, with_reset, exhausted}
 use Rattle.model.specs.Calls.{handle, accept, handle_event, Room, sealed}
@@ -31,7 +29,7 @@ id_of n = filled 8 12 n (lit≤ tt) refl
 
 -- a peer at 127.0.0.1, port 443, where the local address is not known
 abbrev pub addresses : FourTuple
-addresses = record { remote = V4 (record { ip = 127 ∷ 0 ∷ 0 ∷ 1 ∷ []; port = 443 }); local_ip = None }
+addresses = record { remote = V4 (record { ip = record { octets = 127 ∷ 0 ∷ 0 ∷ 1 ∷ [] }; port = 443 }); local_ip = None }
 
 -- settings with this many bytes for all that waits, this timeout, and a preferred address or none
 abbrev pub settings_with : ℕ → Option ℕ → Bool → Settings
@@ -48,9 +46,9 @@ settings_with bytes timeout preferred = record {
 abbrev pub open_door : DoorAnswers
 open_door = record {
   knows = λ v x. true;
-  opens = λ d. Open (record { validated = false; original = d.dst; retry = None });
+  opens = λ d. Ok (record { validated = false; original = d.dst; retry = None });
   proves = λ d. true;
-  greets = λ d h xs. Yes;
+  greets = λ d h xs. Ok tt;
 }
 
 -- an endpoint with identifiers of this length and these settings

@@ -1,7 +1,7 @@
 -- What the endpoint's calls take and give. The leaves are the types of the code.
 use Rattle.std.specs.Prelude.{ℕ, Bool, List, [], ◌∷◌, ◌++◌, Option}
 use Rattle.records.specs.declared.shared.ConnectionId.{ConnectionId}
-pub use Rattle.records.specs.declared.address.SocketAddr.{SocketAddr as Remote}
+pub use Rattle.std.specs.declared.net.socket_addr.SocketAddr.{SocketAddr as Remote}
 pub use Rattle.records.specs.declared.address.FourTuple.{FourTuple}
 pub use Rattle.records.specs.declared.token.RemoteToken.{RemoteToken as Sender}
 pub use Rattle.records.specs.declared.config.Settings.{Settings}

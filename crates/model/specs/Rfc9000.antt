@@ -1,6 +1,6 @@
 -- What RFC 9000 asks of datagrams, and of what an endpoint answers to them. The numbers in parentheses are sections of RFC 9000.
-use Rattle.std.specs.Prelude.{◌≡◌, ℕ, ◌+◌, ◌/◌, ◌<◌, ◌≤◌, true, false, cond, ◌⊎◌, List, ◌++◌, length, Some, nat_le, slice_index_or}
-use Rattle.supply.specs.declared.answers.Opens.TheVariants.{BadToken}
+use Rattle.std.specs.Prelude.{◌≡◌, ℕ, ◌+◌, ◌/◌, ◌<◌, ◌≤◌, true, false, cond, ◌⊎◌, List, ◌++◌, length, Some, nat_le, slice_index_or, Err}
+use Rattle.supply.specs.declared.answers.Unopened.TheVariants.{BadToken}
 use Rattle.model.specs.Records.{Id, Token, empty, FourTuple, Datagram, size, is_initial, is_short, is_early, Close, Incoming, Answer, refused, delivered, stored, opened, closing, reset, accepted, failed, ignored, issued, done, written}
 use Rattle.model.specs.Endpoint.{Waiting, to_attempt, to_connection, State, Config, Supply, row}
 use Rattle.model.specs.Calls.{marked, handle, brought, refuse, sealed}
@@ -82,7 +82,7 @@ pub record GoesBack (d : Datagram) (k : Close) : Type 0 where
 pub record Closes (c : Config) (s : State) (d : Datagram) (k : Close) : Type 0 where
   pub first : First s d
   pub back : GoesBack d k
-  pub code : ((k.code ≡ protocol_violation) × (LongEnough c.len d → ⊥)) ⊎ ((k.code ≡ invalid_token) × (c.door.opens d ≡ BadToken))
+  pub code : ((k.code ≡ protocol_violation) × (LongEnough c.len d → ⊥)) ⊎ ((k.code ≡ invalid_token) × (c.door.opens d ≡ Err BadToken))
 
 -- a reset answers a packet with a short header that is of no connection, goes back where that came from, and is a stateless reset with the token of the
 -- identifier that it has; what stands before the token is drawn from the byte source, two bits of the first byte apart, where the draws for a datagram of

@@ -2,22 +2,24 @@
 use Rattle.std.specs.Prelude.{ℕ, ◌*◌, ◌%◌, ◌^◌, Bool, true, false, ◌&&◌, List, Some, None, fold, Option, ◌==◌, bit_xor}
 use Rattle.std.specs.Str.{bytes_eq}
 use Rattle.records.specs.declared.shared.ConnectionId.{ConnectionId}
-use Rattle.records.specs.declared.address.SocketAddrV4.{SocketAddrV4}
-use Rattle.records.specs.declared.address.SocketAddrV6.{SocketAddrV6}
-use Rattle.records.specs.declared.address.SocketAddr.{SocketAddr}
-use Rattle.records.specs.declared.address.SocketAddr.TheVariants as socket
-use Rattle.records.specs.declared.address.IpAddr.{IpAddr}
-use Rattle.records.specs.declared.address.IpAddr.TheVariants as ip
+use Rattle.std.specs.declared.net.socket_addr.SocketAddrV4.{SocketAddrV4}
+use Rattle.std.specs.declared.net.socket_addr.SocketAddrV6.{SocketAddrV6}
+use Rattle.std.specs.declared.net.socket_addr.SocketAddr.{SocketAddr}
+use Rattle.std.specs.declared.net.socket_addr.SocketAddr.TheVariants as socket
+use Rattle.std.specs.declared.net.ip_addr.IpAddr.{IpAddr}
+use Rattle.std.specs.declared.net.ip_addr.IpAddr.TheVariants as ip
+use Rattle.std.specs.Net.Addr.{ipv4_octets, ipv6_octets, ipv6_segments}
+use Rattle.std.specs.Net.Socket.{v4_ip, v4_port, v6_ip, v6_port, v6_flowinfo, v6_scope_id}
 use Rattle.records.specs.declared.address.FourTuple.{FourTuple}
 use Rattle.records.specs.declared.token.RemoteToken.{RemoteToken}
 
 -- the same address of four bytes and the same port
 abbrev pub same_v4 : SocketAddrV4 → SocketAddrV4 → Bool
-same_v4 a b = a.port == b.port && bytes_eq a.ip b.ip
+same_v4 a b = bytes_eq (ipv4_octets (v4_ip a)) (ipv4_octets (v4_ip b)) && v4_port a == v4_port b
 
--- with sixteen address bytes the flow and the scope count too
+-- with an address of eight segments the flow and the scope count too
 abbrev pub same_v6 : SocketAddrV6 → SocketAddrV6 → Bool
-same_v6 a b = a.port == b.port && (a.flowinfo == b.flowinfo && (a.scope_id == b.scope_id && bytes_eq a.ip b.ip))
+same_v6 a b = bytes_eq (ipv6_segments (v6_ip a)) (ipv6_segments (v6_ip b)) && (v6_port a == v6_port b && (v6_flowinfo a == v6_flowinfo b && v6_scope_id a == v6_scope_id b))
 
 -- the same peer
 abbrev pub same_remote : SocketAddr → SocketAddr → Bool
@@ -28,10 +30,10 @@ same_remote (socket.V6 a) (socket.V6 b) = same_v6 a b
 
 -- the same address without a port
 abbrev pub same_ip : IpAddr → IpAddr → Bool
-same_ip (ip.V4 a) (ip.V4 b) = bytes_eq a.octets b.octets
+same_ip (ip.V4 a) (ip.V4 b) = bytes_eq (ipv4_octets a) (ipv4_octets b)
 same_ip (ip.V4 a) (ip.V6 b) = false
 same_ip (ip.V6 a) (ip.V4 b) = false
-same_ip (ip.V6 a) (ip.V6 b) = bytes_eq a.octets b.octets
+same_ip (ip.V6 a) (ip.V6 b) = bytes_eq (ipv6_segments a) (ipv6_segments b)
 
 -- the same local address, or none on either side
 abbrev pub same_local : Option IpAddr → Option IpAddr → Bool
@@ -58,8 +60,8 @@ hash_of bs = fold mixed 2166136261 bs
 
 -- the hash of a peer: its address and port
 abbrev pub hash_remote : SocketAddr → ℕ
-hash_remote (socket.V4 a) = mixed (hash_of a.ip) a.port
-hash_remote (socket.V6 a) = mixed (hash_of a.ip) a.port
+hash_remote (socket.V4 a) = mixed (hash_of (ipv4_octets (v4_ip a))) (v4_port a)
+hash_remote (socket.V6 a) = mixed (hash_of (ipv6_octets (v6_ip a))) (v6_port a)
 
 -- the hash of an identifier: all its bytes, zeros included
 abbrev pub hash_id : ConnectionId → ℕ

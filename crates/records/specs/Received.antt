@@ -6,6 +6,7 @@ use Rattle.records.specs.declared.token.RemoteToken.{RemoteToken}
 use Rattle.records.specs.declared.packet.Kind.{Kind}
 use Rattle.records.specs.declared.packet.Kind.TheVariants.{Initial, Handshake, ZeroRtt, Short, Retry, VersionNegotiate}
 use Rattle.records.specs.declared.packet.Datagram as code
+use Rattle.records.specs.declared.packet.Received.{Received}
 
 -- an Initial packet
 abbrev pub is_initial : Kind → Bool
@@ -61,6 +62,10 @@ datagram_of d bs = record {
   ecn = d.ecn;
   time = d.time;
 }
+
+-- the same of the two together
+abbrev pub seen : Received → Datagram
+seen r = datagram_of r.datagram.now r.bytes.now
 
 -- how many bytes it has
 abbrev pub size : Datagram → ℕ

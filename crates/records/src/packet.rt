@@ -1,3 +1,6 @@
+ghost use Rattle.std.specs.Prelude.{◌≡◌};
+ghost use Rattle.records.specs.Received.{is_initial, is_short, is_early};
+
 use crate::address::FourTuple;
 use crate::shared::ConnectionId;
 
@@ -10,6 +13,29 @@ pub enum Kind {
     Short,
     Retry,
     VersionNegotiate,
+}
+
+impl Kind {
+    /// Whether a packet is an Initial.
+    pub fn is_initial(self) -> bool
+        ensures { result ≡ is_initial self }
+    {
+        self == Kind::Initial
+    }
+
+    /// Whether a packet has a short header.
+    pub fn is_short(self) -> bool
+        ensures { result ≡ is_short self }
+    {
+        self == Kind::Short
+    }
+
+    /// Whether a packet bears an identifier that the client chose.
+    pub fn is_early(self) -> bool
+        ensures { result ≡ is_early self }
+    {
+        matches!(self, Kind::Initial | Kind::ZeroRtt)
+    }
 }
 
 /// A received datagram, its bytes apart.
@@ -28,6 +54,13 @@ pub struct Datagram {
     pub version: u32,
     /// Whether an Initial bears a token.
     pub token_mark: bool,
+}
+
+/// A received datagram with its bytes.
+#[derive(Clone, Copy)]
+pub struct Received<'a> {
+    pub datagram: &'a Datagram,
+    pub bytes: &'a [u8],
 }
 
 /// A datagram that waits, its bytes apart, and how many it has.

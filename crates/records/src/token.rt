@@ -1,4 +1,4 @@
-use crate::address::SocketAddr;
+use std::net::SocketAddr;
 
 /// A stateless reset token.
 #[derive(Clone, Copy, PartialEq, Eq)]

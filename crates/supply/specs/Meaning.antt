@@ -1,10 +1,19 @@
 -- What suppliers mean: a generator and a byte source what is to come, a signer and a door all their answers.
-use Rattle.std.specs.Prelude.{◌≡◌, Bool, true, List, ℕ, ◌+◌, ◌≤◌, ◌<◌, length, take}
+use Rattle.std.specs.Prelude.{◌≡◌, Bool, true, List, ℕ, Result, ◌+◌, ◌≤◌, ◌<◌, length, take}
 use Rattle.records.specs.declared.shared.ConnectionId.{ConnectionId}
 use Rattle.records.specs.Ids.{id_bytes}
 use Rattle.records.specs.Received.{Datagram}
-use Rattle.supply.specs.declared.answers.Opens.{Opens}
-use Rattle.supply.specs.declared.answers.Greets.{Greets}
+use Rattle.supply.specs.declared.answers.Opening.{Opening}
+use Rattle.supply.specs.declared.answers.Unopened.{Unopened}
+use Rattle.supply.specs.declared.answers.HandshakeError.{HandshakeError}
+
+-- what a door says of a first datagram: what it opens, or why not
+abbrev pub Opens : Type 0
+Opens = Result Opening Unopened
+
+-- what the handshake says to a first datagram: that it goes on, or why not
+abbrev pub Greets : Type 0
+Greets = Result (Unit {0}) HandshakeError
 
 -- a generator: the length of its identifiers, those to come, and what is valid when so many more were drawn
 pub record Generator : Type 0 where

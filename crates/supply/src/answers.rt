@@ -11,19 +11,17 @@ pub struct Opening {
     pub retry: Option<ConnectionId>,
 }
 
-/// What `opens` says.
-#[derive(Clone, Copy)]
-pub enum Opens {
+/// Why a door does not open a datagram.
+#[derive(Clone, Copy, Debug, PartialEq, Eq)]
+pub enum Unopened {
     Closed,
     ReservedBits,
     BadToken,
-    Open(Opening),
 }
 
-/// What `greets` says.
-#[derive(Clone, Copy)]
-pub enum Greets {
-    Yes,
+/// Why the handshake fails with a first datagram.
+#[derive(Clone, Copy, Debug, PartialEq, Eq)]
+pub enum HandshakeError {
     TransportError(u64),
     Other,
 }

@@ -1,11 +1,11 @@
 ghost use Rattle.std.specs.Prelude.{◌≡◌};
-ghost use Rattle.records.specs.Received.{datagram_of};
+ghost use Rattle.records.specs.Received.{seen};
 ghost use Rattle.supply.specs.Meaning.{Supplied, AllLawful, spent};
 ghost use Rattle.std.proofs.Common.{rules};
 
-use crate::answers::{Greets, Opens};
+use crate::answers::{HandshakeError, Opening, Unopened};
 use crate::supply::{ByteSource, ConnectionIdGenerator, Door, HmacKey};
-use records::packet::Datagram;
+use records::packet::Received;
 use records::shared::ConnectionId;
 
 /// The four suppliers, held by value.
@@ -48,16 +48,21 @@ pub trait Supplies {
         ensures { result ≡ (all self.now).door.knows version dst_cid.now };
 
     /// What a first datagram holds.
-    fn opens(&self, datagram: &Datagram, bytes: &[u8]) -> Opens
-        ensures { result ≡ (all self.now).door.opens (datagram_of datagram.now bytes.now) };
+    fn opens(&self, received: &Received) -> Result<Opening, Unopened>
+        ensures { result ≡ (all self.now).door.opens (seen received.now) };
 
     /// Whether a first datagram is authentic.
-    fn proves(&self, datagram: &Datagram, bytes: &[u8]) -> bool
-        ensures { result ≡ (all self.now).door.proves (datagram_of datagram.now bytes.now) };
+    fn proves(&self, received: &Received) -> bool
+        ensures { result ≡ (all self.now).door.proves (seen received.now) };
 
     /// What the handshake says to a first datagram.
-    fn greets(&self, datagram: &Datagram, bytes: &[u8], handle: u32, ids: &[ConnectionId]) -> Greets
-        ensures { result ≡ (all self.now).door.greets (datagram_of datagram.now bytes.now) handle ids.now };
+    fn greets(
+        &self,
+        received: &Received,
+        handle: u32,
+        ids: &[ConnectionId],
+    ) -> Result<(), HandshakeError>
+        ensures { result ≡ (all self.now).door.greets (seen received.now) handle ids.now };
 
     ghost lawful: { (s : Self) → AllLawful (all s) };
 }
@@ -92,21 +97,20 @@ impl<G: ConnectionIdGenerator, B: ByteSource, K: HmacKey, D: Door> Supplies
         self.door.knows(version, dst_cid)
     }
 
-    fn opens(&self, datagram: &Datagram, bytes: &[u8]) -> Opens {
-        self.door.opens(datagram, bytes)
+    fn opens(&self, received: &Received) -> Result<Opening, Unopened> {
+        self.door.opens(received)
     }
 
-    fn proves(&self, datagram: &Datagram, bytes: &[u8]) -> bool {
-        self.door.proves(datagram, bytes)
+    fn proves(&self, received: &Received) -> bool {
+        self.door.proves(received)
     }
 
     fn greets(
         &self,
-        datagram: &Datagram,
-        bytes: &[u8],
+        received: &Received,
         handle: u32,
         ids: &[ConnectionId],
-    ) -> Greets {
-        self.door.greets(datagram, bytes, handle, ids)
+    ) -> Result<(), HandshakeError> {
+        self.door.greets(received, handle, ids)
     }
 }

@@ -1,9 +1,9 @@
 ghost use Rattle.std.specs.Prelude.{◌≡◌, Bool, List, ℕ, ◌<◌, length};
-ghost use Rattle.records.specs.Received.{datagram_of};
+ghost use Rattle.records.specs.Received.{seen};
 ghost use Rattle.supply.specs.Meaning.{Generator, Lawful, DoorAnswers, shifted, later};
 
-use crate::answers::{Greets, Opens};
-use records::packet::Datagram;
+use crate::answers::{HandshakeError, Opening, Unopened};
+use records::packet::Received;
 use records::shared::ConnectionId;
 
 /// A generator of connection identifiers, all of one length.
@@ -58,14 +58,19 @@ pub trait Door {
         ensures { result ≡ (says self.now).knows version dst_cid.now };
 
     /// What a first datagram holds.
-    fn opens(&self, datagram: &Datagram, bytes: &[u8]) -> Opens
-        ensures { result ≡ (says self.now).opens (datagram_of datagram.now bytes.now) };
+    fn opens(&self, received: &Received) -> Result<Opening, Unopened>
+        ensures { result ≡ (says self.now).opens (seen received.now) };
 
     /// Whether a first datagram is authentic.
-    fn proves(&self, datagram: &Datagram, bytes: &[u8]) -> bool
-        ensures { result ≡ (says self.now).proves (datagram_of datagram.now bytes.now) };
+    fn proves(&self, received: &Received) -> bool
+        ensures { result ≡ (says self.now).proves (seen received.now) };
 
     /// What the handshake says to a first datagram.
-    fn greets(&self, datagram: &Datagram, bytes: &[u8], handle: u32, ids: &[ConnectionId]) -> Greets
-        ensures { result ≡ (says self.now).greets (datagram_of datagram.now bytes.now) handle ids.now };
+    fn greets(
+        &self,
+        received: &Received,
+        handle: u32,
+        ids: &[ConnectionId],
+    ) -> Result<(), HandshakeError>
+        ensures { result ≡ (says self.now).greets (seen received.now) handle ids.now };
 }

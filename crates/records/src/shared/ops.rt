@@ -1,8 +1,8 @@
 ghost use Rattle.std.specs.Prelude.{◌≡◌, ℕ, ◌<◌, ◌≤◌, length, MatchOption};
-ghost use Rattle.records.specs.Ids.{id_bytes, empty, same_id, no_id};
+ghost use Rattle.records.specs.Ids.{id_bytes, empty, no_id};
 ghost use Rattle.records.specs.Keys.{hash_id};
 
-use crate::bytes::{hash_of, same_bytes};
+use crate::bytes::hash_of;
 use crate::shared::ConnectionId;
 
 impl ConnectionId {
@@ -14,9 +14,7 @@ impl ConnectionId {
             return None;
         }
         let mut bytes = [0; 20];
-        for i in 0..text.len() {
-            bytes[i] = text[i];
-        }
+        bytes[0..text.len()].copy_from_slice(text);
         Some(ConnectionId {
             len: text.len() as u8,
             bytes,
@@ -53,13 +51,6 @@ impl ConnectionId {
         ensures { result.now ≡ id_bytes self.now }
     {
         &self.bytes[0..self.len as usize]
-    }
-
-    /// Whether two identifiers are the same.
-    pub fn same(&self, other: &ConnectionId) -> bool
-        ensures { result ≡ same_id self.now other.now }
-    {
-        self.len == other.len && same_bytes(&self.bytes, &other.bytes)
     }
 
     /// Its 32-bit hash.
