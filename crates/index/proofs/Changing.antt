@@ -1,7 +1,7 @@
 -- What taking an Initial entry out leaves.
-use Rattle.std.proofs.Common.{◌≡◌, false, cond, Some, None, Option, sym, refl, ap, ◌∙◌, arith}
+use Rattle.std.proofs.Common.{◌≡◌, false, cond, Some, None, Option, List, ℕ, sym, refl, ap, ◌∙◌, arith}
 use Rattle.std.proofs.lemmas.Bool.{cond-false, cond_both, both_ways}
-use Rattle.table.specs.declared.table.Table.{Table}
+use Rattle.table.specs.declared.slot.Slot.{Slot}
 use Rattle.table.specs.Slots.{lookup, used, Removed}
 use Rattle.records.specs.declared.shared.ConnectionId.{ConnectionId}
 use Rattle.records.specs.Ids.{same_id, empty}
@@ -9,19 +9,19 @@ use Rattle.records.specs.Same.{same_id_decides}
 use Rattle.index.specs.declared.target.RouteDatagramTo.{RouteDatagramTo}
 use Rattle.index.specs.Changes.{present, Changed}
 
-module _ (s t : Table ConnectionId RouteDatagramTo) (x : ConnectionId) (o : Option RouteDatagramTo) (some : empty x ≡ false) (none : o ≡ None)
-    (before : s.count ≡ used s.slots.now) (after : t.count ≡ used t.slots.now) where
-  seen : (q : ConnectionId) → cond (same_id x q) None (lookup same_id s.slots.now q) ≡ cond (empty x) (lookup same_id s.slots.now q) (cond (same_id x q) o (lookup same_id s.slots.now q))
+module _ (s t : List (Slot ConnectionId RouteDatagramTo)) (m n : ℕ) (x : ConnectionId) (o : Option RouteDatagramTo) (some : empty x ≡ false) (none : o ≡ None)
+    (before : m ≡ used s) (after : n ≡ used t) where
+  seen : (q : ConnectionId) → cond (same_id x q) None (lookup same_id s q) ≡ cond (empty x) (lookup same_id s q) (cond (same_id x q) o (lookup same_id s q))
   seen q =
-      ap (λ v. cond (same_id x q) v (lookup same_id s.slots.now q)) (sym none)
-      ∙ sym (cond-false (empty x) (lookup same_id s.slots.now q) (cond (same_id x q) o (lookup same_id s.slots.now q)) some)
+      ap (λ v. cond (same_id x q) v (lookup same_id s q)) (sym none)
+      ∙ sym (cond-false (empty x) (lookup same_id s q) (cond (same_id x q) o (lookup same_id s q)) some)
 
-  absent : lookup same_id s.slots.now x ≡ None → (q : ConnectionId) → lookup same_id s.slots.now q ≡ cond (same_id x q) None (lookup same_id s.slots.now q)
+  absent : lookup same_id s x ≡ None → (q : ConnectionId) → lookup same_id s q ≡ cond (same_id x q) None (lookup same_id s q)
   absent gone q =
-      cond_both (same_id x q) None (lookup same_id s.slots.now q) (λ v. lookup same_id s.slots.now q ≡ v)
-      (λ e. ap (lookup same_id s.slots.now) (sym ((same_id_decides x q).0 e)) ∙ gone) (λ _. refl)
+      cond_both (same_id x q) None (lookup same_id s q) (λ v. lookup same_id s q ≡ v)
+      (λ e. ap (lookup same_id s) (sym ((same_id_decides x q).0 e)) ∙ gone) (λ _. refl)
 
-  pub removed : (r : Option RouteDatagramTo) → Removed same_id s.slots.now t.slots.now x r → Changed s t x o
+  pub removed : (r : Option RouteDatagramTo) → Removed same_id s t x r → Changed s t m n x o
   removed (Some v) h = record {
     maps = λ q. h.1 q ∙ seen q;
     count = λ _. omega (arith, ap present (sym h.0), ap present none, h.2);

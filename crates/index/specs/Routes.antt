@@ -1,10 +1,10 @@
 -- What the tables mean.
 use Rattle.std.specs.Prelude.{[], None, Option}
 use Rattle.std.specs.Option.{option_map}
-use Rattle.table.specs.Slots.{lookup, Reached}
+use Rattle.table.specs.Slots.{lookup}
 use Rattle.records.specs.declared.shared.ConnectionId.{ConnectionId}
 use Rattle.records.specs.Ids.{same_id}
-use Rattle.records.specs.Keys.{same_pair, same_sender, hash_id, hash_pair, hash_sender}
+use Rattle.records.specs.Keys.{same_pair, same_sender}
 use Rattle.model.specs.Endpoint.{State, Target, to_attempt, to_connection}
 use Rattle.index.specs.declared.target.RouteDatagramTo.{RouteDatagramTo}
 use Rattle.index.specs.declared.target.RouteDatagramTo.TheVariants.{Incoming, Connection}
@@ -32,10 +32,3 @@ index_state i = record {
   free_slots = [];
   last_reset = None;
 }
-
--- every key of the four tables can be reached
-pub record AllReached (i : ConnectionIndex) : Type 0 where
-  pub initial : Reached same_id hash_id i.connection_ids_initial.slots.now
-  pub ids : Reached same_id hash_id i.connection_ids.slots.now
-  pub pairs : Reached same_pair hash_pair i.incoming_connection_remotes.slots.now
-  pub senders : Reached same_sender hash_sender i.connection_reset_tokens.slots.now

@@ -1,5 +1,4 @@
-ghost use Rattle.std.specs.Prelude.{◌≡◌, ◌≤◌, length};
-
+use arrayvec::ArrayVec;
 use records::address::FourTuple;
 use records::shared::ConnectionId;
 use records::token::RemoteToken;
@@ -11,25 +10,21 @@ pub struct Held {
     pub id: ConnectionId,
 }
 
-/// A place for a connection: what the endpoint knows of it while it lives.
-#[derive(Clone, Copy)]
+/// What the endpoint knows of a connection while it lives.
+#[derive(Drop)]
 pub struct ConnectionMeta {
-    pub live: bool,
     /// The identifier that the client's first datagram bore.
     pub init_cid: ConnectionId,
     /// How many identifiers it was issued.
     pub cids_issued: u32,
-    /// How many of `loc_cids`, from the front, it holds.
-    pub held: usize,
-    pub loc_cids: [Held; 8],
+    /// The identifiers that it holds.
+    pub loc_cids: ArrayVec<Held, 8>,
     pub addresses: FourTuple,
     pub reset_token: Option<RemoteToken>,
-    ghost few: { held ≤ 8 },
-    ghost wide: { length loc_cids ≡ 8 },
 }
 
-/// The connections by handle.
+/// The connections by handle; a place without one is `None`.
 #[derive(Drop)]
 pub struct Connections<'a> {
-    pub items: &'a mut [ConnectionMeta],
+    pub items: &'a mut [Option<ConnectionMeta>],
 }

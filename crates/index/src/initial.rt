@@ -1,7 +1,6 @@
 ghost use Rattle.std.specs.Prelude.{◌≡◌, ℕ, ◌+◌, ◌<◌, length, Some, None};
-ghost use Rattle.table.specs.Slots.{lookup, Sound};
+ghost use Rattle.table.specs.Slots.{lookup};
 ghost use Rattle.records.specs.Ids.{same_id, empty};
-ghost use Rattle.records.specs.Keys.{hash_id};
 ghost use Rattle.index.specs.Entries.{entry_after};
 ghost use Rattle.index.specs.Changes.{Changed};
 
@@ -16,11 +15,9 @@ pub fn set_initial(
     dst_cid: ConnectionId,
     event: InitialEvent,
 )
-    requires sound { Sound same_id hash_id initial.old.slots.now initial.old.count }
-    requires room { initial.old.count < length initial.old.slots.now }
-    ensures sound { Sound same_id hash_id initial.new.slots.now initial.new.count }
+    requires { initial.old.count < length initial.old.slots.now }
     ensures long { length initial.new.slots.now ≡ length initial.old.slots.now }
-    ensures changed { Changed initial.old initial.new dst_cid (entry_after (lookup same_id initial.old.slots.now dst_cid) event) }
+    ensures changed { Changed initial.old.slots.now initial.new.slots.now initial.old.count initial.new.count dst_cid (entry_after (lookup same_id initial.old.slots.now dst_cid) event) }
 {
     if dst_cid.is_empty() {
         return;

@@ -27,24 +27,8 @@ pub fn next_entry(entry: Option<RouteDatagramTo>, event: InitialEvent) -> Option
 {
     match (entry, event) {
         (None, InitialEvent::Arrival(slot)) => Some(RouteDatagramTo::Incoming(slot)),
-        (None, InitialEvent::Accepted(handle)) => Some(RouteDatagramTo::Connection(handle)),
-        (None, InitialEvent::Failed) => None,
-        (None, InitialEvent::Drained) => None,
-        (Some(RouteDatagramTo::Incoming(first)), InitialEvent::Arrival(_)) => Some(
-            RouteDatagramTo::Incoming(first),
-        ),
-        (Some(RouteDatagramTo::Incoming(_)), InitialEvent::Accepted(handle)) => Some(
-            RouteDatagramTo::Connection(handle),
-        ),
-        (Some(RouteDatagramTo::Incoming(_)), InitialEvent::Failed) => None,
-        (Some(RouteDatagramTo::Incoming(_)), InitialEvent::Drained) => None,
-        (Some(RouteDatagramTo::Connection(first)), InitialEvent::Arrival(_)) => Some(
-            RouteDatagramTo::Connection(first),
-        ),
-        (Some(RouteDatagramTo::Connection(_)), InitialEvent::Accepted(handle)) => Some(
-            RouteDatagramTo::Connection(handle),
-        ),
-        (Some(RouteDatagramTo::Connection(_)), InitialEvent::Failed) => None,
-        (Some(RouteDatagramTo::Connection(_)), InitialEvent::Drained) => None,
+        (Some(to), InitialEvent::Arrival(_)) => Some(to),
+        (_, InitialEvent::Accepted(handle)) => Some(RouteDatagramTo::Connection(handle)),
+        (_, InitialEvent::Failed | InitialEvent::Drained) => None,
     }
 }
