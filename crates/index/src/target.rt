@@ -26,9 +26,9 @@ pub fn next_entry(entry: Option<RouteDatagramTo>, event: InitialEvent) -> Option
     ensures { result ≡ entry_after entry event }
 {
     match (entry, event) {
+        (_, InitialEvent::Failed | InitialEvent::Drained) => None,
+        (_, InitialEvent::Accepted(handle)) => Some(RouteDatagramTo::Connection(handle)),
         (None, InitialEvent::Arrival(slot)) => Some(RouteDatagramTo::Incoming(slot)),
         (Some(to), InitialEvent::Arrival(_)) => Some(to),
-        (_, InitialEvent::Accepted(handle)) => Some(RouteDatagramTo::Connection(handle)),
-        (_, InitialEvent::Failed | InitialEvent::Drained) => None,
     }
 }

@@ -1,4 +1,4 @@
-use Rattle.std.proofs.Common.{◌≡◌, ◌∙◌, length, sum_by, rules}
+use Rattle.std.proofs.Common.{◌≡◌, ◌∙◌, sum_by, rules}
 use Rattle.model.specs.Endpoint.{held_by}
 use Rattle.index.specs.Conns.{conn_of}
 use Rattle.index.proofs.Holding.{held_sum}
