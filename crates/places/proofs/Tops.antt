@@ -1,21 +1,7 @@
-use Rattle.std.proofs.Common.{◌≡◌, ℕ, zero, suc, ◌+◌, ◌-◌, ◌<◌, ◌≤◌, List, [], ◌∷◌, reverse, length, get_or, take, drop, Some, sym, refl, ap, ◌∙◌, inl, inr, arith}
-use Rattle.std.proofs.lemmas.Bool.{cases_lt}
-use Rattle.places.specs.Free.{top_of, counting}
-use Rattle.std.proofs.lemmas.List.{take_more, reverse-append, length-reverse, length-take-le, get_or-reverse, ext_get_or}
-
--- the top, and what is below it
-pub last_on_top : (xs : List ℕ) (u : ℕ) → 0 < u → u ≤ length xs → reverse (take u xs) ≡ get_or xs (u - 1) 0 ∷ reverse (take (u - 1) xs)
-last_on_top xs u lt le =
-    let k : u - 1 + 1 ≡ u = omega arith in
-    ap (λ n. reverse (take n xs)) (sym k) ∙ ap reverse (take_more xs (u - 1) 0 (omega arith)) ∙ reverse-append (take (u - 1) xs) (get_or xs (u - 1) 0 ∷ [])
-
--- without its top
-pub less_one : (xs : List ℕ) (u : ℕ) → u ≤ length xs → reverse (take (u - 1) xs) ≡ drop 1 (reverse (take u xs))
-less_one xs u le =
-    elim (cases_lt 0 u) [
-      | inl p ↦ sym (ap (drop 1) (last_on_top xs u p le))
-      | inr z ↦ let e : u ≡ 0 = omega arith in rw e refl
-    ]
+use Rattle.std.proofs.Common.{◌≡◌, ℕ, zero, suc, ◌+◌, ◌-◌, ◌<◌, ◌≤◌, List, [], ◌∷◌, reverse, length, get_or, take, drop, Some, sym, refl, ap, ◌∙◌, arith}
+use Rattle.places.specs.Stacks.{top_of}
+use Rattle.places.specs.Free.{counting}
+use Rattle.std.proofs.lemmas.List.{length-reverse, length-take-le, get_or-reverse, ext_get_or}
 
 pub free_length : (xs : List ℕ) (u : ℕ) → u ≤ length xs → length (reverse (take u xs)) ≡ u
 free_length xs u le = length-reverse (take u xs) ∙ length-take-le u xs le

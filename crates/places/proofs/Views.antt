@@ -1,13 +1,14 @@
 -- From the places, and the blocks that they name, to the entries.
-use Rattle.std.proofs.Common.{◌≡◌, ℕ, ◌+◌, ◌<◌, ◌≤◌, Bool, true, false, cond, not, ◌&&◌, eqb, ltb, leb, ◌≢◌, List, [], ◌∷◌, ◌++◌, map, length, get_or, take, drop, set, Some, sum_by, filter, sym, refl, ap, ◌∙◌, arith}
-use Rattle.std.proofs.lemmas.List.{length-map, get_or-map, length-take-le, take_all, take_more_set, map_push, take_at, get_or-set_same, get_or-set_other, length-set, get_or_default}
+use Rattle.std.proofs.Common.{◌≡◌, ℕ, ◌+◌, ◌*◌, ◌<◌, ◌≤◌, Bool, true, false, cond, not, ◌&&◌, eqb, ltb, leb, ◌≢◌, List, [], ◌∷◌, ◌++◌, map, length, get_or, take, drop, set, Some, sum_by, filter, sym, refl, ap, ◌∙◌, arith}
+use Rattle.std.proofs.lemmas.List.{length-map, get_or-map, length-take-le, take_more_set, map_push, take_at, get_or-set_same, get_or-set_other, length-set, get_or_default}
 use Rattle.std.proofs.lemmas.List.Sums.{sum_by-cons, sum_by_more, sum_by-take-le, sum_by-set, sum_by_push, get_or-le-sum_by}
 use Rattle.std.proofs.lemmas.List.Filters.{sum_by-filter_both}
-use Rattle.std.proofs.lemmas.Bool.{cond-true, and_parts, eqb-true, eqb-false, eq-eqb, ltb-true, leb-true, lt-ltb, le-leb, and_from}
+use Rattle.std.proofs.lemmas.Bool.{cond-true, and_parts, eqb-true, eqb-false, eq-eqb, ltb-true, leb-true, le-leb, and_from}
+use Rattle.std.specs.List.{find}
+use Rattle.std.specs.Option.{option_map}
 use Rattle.places.specs.declared.record.Place.{Place}
 use Rattle.records.specs.declared.packet.Datagram.{Datagram}
-use Rattle.std.proofs.lemmas.Bool.Decides.{nat_tests}
-use Rattle.places.specs.Entries.{Entry, entry, arrival, blank, names, outside, unfit, fits, oversized, weight, of_slot, mine, without, total, first_of, place_weight, place_of, place_other, place_first}
+use Rattle.places.specs.Entries.{Entry, entry, arrival, blank, names, outside, unfit, fits, weight, of_slot, mine, without, total, first_of, place_weight, place_of, place_other, place_leads}
 
 -- ## Tests as numbers
 
@@ -31,12 +32,11 @@ kept_map g p [] = refl
 kept_map g p (x ∷ xs) =
     ap (λ t. cond (p (g x)) (g x ∷ t) t) (kept_map g p xs) ∙ sym (map_cond g (p (g x)) (x ∷ filter (λ y. p (g y)) xs) (filter (λ y. p (g y)) xs))
 
-pub sum_map : {X Y : Type 0} (f : Y → ℕ) (g : X → Y) (xs : List X) → sum_by f (map g xs) ≡ sum_by (λ x. f (g x)) xs
-sum_map f g [] = refl
-sum_map f g (x ∷ xs) = omega (arith, sum_by-cons f (g x) (map g xs), sum_by-cons (λ y. f (g y)) x xs, sum_map f g xs)
-
 pub sum_kept_none : {X : Type 0} (f : X → ℕ) (p : X → Bool) (xs : List X) → sum_by f xs ≡ 0 → sum_by f (filter p xs) ≡ 0
 sum_kept_none f p xs e = omega (arith, sum_by-filter_both p (λ x. not (p x)) (λ _. refl) f xs)
+
+pub sum_kept_le : {X : Type 0} (f : X → ℕ) (p : X → Bool) (xs : List X) → sum_by f (filter p xs) ≤ sum_by f xs
+sum_kept_le f p xs = omega (arith, sum_by-filter_both p (λ x. not (p x)) (λ _. refl) f xs)
 
 -- ## Entries
 
@@ -53,25 +53,6 @@ entry_at bs ps i p lt e = get_or-map (entry bs) ps i p (entry bs p) lt ∙ ap (e
 pub none_at : (f : Place → ℕ) (ps : List Place) (i : ℕ) (p : Place) → i < length ps → p ≡ get_or ps i p → sum_by f ps ≡ 0 → f p ≡ 0
 none_at f ps i p lt e z = omega (arith, get_or-le-sum_by f ps i p lt, ap f e)
 
--- a place that fits is not too long
-pub none_over : (bs : List (List ℕ)) (ps : List Place) → sum_by (unfit bs) ps ≡ 0 → sum_by oversized ps ≡ 0
-none_over bs [] u = refl
-none_over bs (p ∷ ps) u =
-    let k = sum_by-cons (unfit bs) p ps in
-    let s = cond-true {A = ℕ} (leb p.kept.len 1500) 0 1 (le-leb _ _ (fits_small bs p (omega arith))) in
-    let r = none_over bs ps (omega arith) in
-    omega (arith, sum_by-cons oversized p ps)
-
-pub short_at : (ps : List Place) (i : ℕ) (p : Place) → i < length ps → p ≡ get_or ps i p → sum_by oversized ps ≡ 0 → p.kept.len ≤ 1500
-short_at ps i p lt e z = leb-true _ _ (passed (leb p.kept.len 1500) (none_at oversized ps i p lt e z))
-
-pub light_at : (ps : List Place) (i : ℕ) (p : Place) → i < length ps → p ≡ get_or ps i p → sum_by oversized ps ≡ 0 → place_weight p ≤ 1500
-light_at ps i p lt e z = below p.first (short_at ps i p lt e z)
-  where
-    below : (b : Bool) → p.kept.len ≤ 1500 → cond b 0 p.kept.len ≤ 1500
-    below true h = omega arith
-    below false h = h
-
 pub weights : (bs : List (List ℕ)) (ps : List Place) → sum_by (unfit bs) ps ≡ 0 → sum_by weight (map (entry bs) ps) ≡ sum_by place_weight ps
 weights bs [] u = refl
 weights bs (p ∷ ps) u =
@@ -80,9 +61,26 @@ weights bs (p ∷ ps) u =
     let s : cond p.first 0 (length (entry bs p).bytes) ≡ cond p.first 0 p.kept.len = ap (cond p.first 0) (sym (fits_size bs p (omega arith))) in
     omega (arith, sum_by-cons weight (entry bs p) (map (entry bs) ps), sum_by-cons place_weight p ps)
 
-pub firsts : (bs : List (List ℕ)) (ps : List Place) (slot : ℕ) → first_of (map (entry bs) ps) slot ≡ place_first ps slot
+-- places that fit weigh at most 1500 each
+pub light : (bs : List (List ℕ)) (ps : List Place) → sum_by (unfit bs) ps ≡ 0 → sum_by place_weight ps ≤ 1500 * length ps
+light bs [] u = omega arith
+light bs (p ∷ ps) u =
+    let k = sum_by-cons (unfit bs) p ps in
+    let r = light bs ps (omega arith) in
+    omega (arith, sum_by-cons place_weight p ps, below p.first (fits_small bs p (omega arith)))
+  where
+    below : (b : Bool) → p.kept.len ≤ 1500 → cond b 0 p.kept.len ≤ 1500
+    below true h = omega arith
+    below false h = h
+
+pub firsts : (bs : List (List ℕ)) (ps : List Place) (slot : ℕ) → first_of (map (entry bs) ps) slot ≡ option_map (λ (p : Place). p.kept.datagram) (find (place_leads slot) ps)
 firsts bs [] slot = refl
-firsts bs (p ∷ ps) slot = ap (cond (place_of slot p && p.first) (Some p.kept.datagram)) (firsts bs ps slot)
+firsts bs (p ∷ ps) slot =
+    ap (cond (place_leads slot p) (Some p.kept.datagram)) (firsts bs ps slot) ∙ sym (mapped (place_leads slot p))
+  where
+    mapped : (b : Bool) → option_map (λ (q : Place). q.kept.datagram) (cond b (Some p) (find (place_leads slot) ps)) ≡ cond b (Some p.kept.datagram) (option_map (λ (q : Place). q.kept.datagram) (find (place_leads slot) ps))
+    mapped true = refl
+    mapped false = refl
 
 -- the bytes of an attempt
 pub weights_of : (bs : List (List ℕ)) (ps : List Place) (slot : ℕ) → sum_by (unfit bs) ps ≡ 0 → total (mine (map (entry bs) ps) slot) ≡ sum_by place_weight (filter (place_of slot) ps)
@@ -203,33 +201,9 @@ pub lent : (bs bs' : List (List ℕ)) (ps qs : List Place) (u : ℕ) → bs' ≡
 lent bs bs' ps qs u eb eq le within fitting =
     rw (eb, eq) (omega (arith, sum_by-take-le (outside (length bs)) ps u), fitting, length-take-le u ps le)
 
-pub lent_short : (bs : List (List ℕ)) (ps qs : List Place) (u : ℕ) → qs ≡ take u ps → u ≤ length ps → length ps ≤ 128 → sum_by (unfit bs) (take u ps) ≡ 0 → (length qs ≤ 128) × (sum_by oversized qs ≡ 0)
-lent_short bs ps qs u eq le few fitting =
-    rw eq (omega (arith, length-take-le u ps le), none_over bs (take u ps) fitting)
-
 -- ## Nothing held yet
-
-cond_le : (b : Bool) → cond b 1 0 ≤ 1
-cond_le true = omega arith
-cond_le false = omega arith
 
 -- the first i places name the blocks below i
 pub record Fresh (ps : List Place) (w i : ℕ) : Type 0 where
   pub each : (b : ℕ) → sum_by (names b) (take i ps) ≡ cond (ltb b i) 1 0
   pub within : sum_by (outside w) (take i ps) ≡ 0
-
-pub fresh_more : (ps : List Place) (w i : ℕ) (x : Place) → Fresh ps w i → i < length ps → i < w → x.block ≡ i → Fresh (set ps i x) w (i + 1)
-fresh_more ps w i x f lt lw e =
-    let t = take_more_set ps i x lt in
-    record {
-      each = λ b. ap (sum_by (names b)) t ∙ sum_by_push (names b) (take i ps) x ∙ ap (λ n. n + names b x) (f.each b) ∙ step b;
-      within = ap (sum_by (outside w)) t ∙ sum_by_push (outside w) (take i ps) x ∙ omega (arith, f.within, cond-true {A = ℕ} (ltb x.block w) 0 1 (lt-ltb x.block w (omega arith)));
-    }
-  where
-    step : (b : ℕ) → cond (ltb b i) 1 0 + names b x ≡ cond (ltb b (i + 1)) 1 0
-    step b = rw e (grind (arith, nat_tests))
-
-pub fresh_all : (ps : List Place) (w i : ℕ) → Fresh ps w i → length ps ≤ i → ((b : ℕ) → sum_by (names b) ps ≤ 1) × (sum_by (outside w) ps ≡ 0)
-fresh_all ps w i f le =
-    let t = take_all i ps le in
-    (λ b. omega (arith, ap (sum_by (names b)) t, f.each b, cond_le (ltb b i)), ap (sum_by (outside w)) (sym t) ∙ f.within)

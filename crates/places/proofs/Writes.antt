@@ -1,11 +1,10 @@
 -- A loop that writes what passes a test, one after another.
 use Rattle.std.proofs.Common.{◌≡◌, ℕ, ◌+◌, ◌*◌, ◌<◌, ◌≤◌, Bool, true, false, cond, List, [], ◌∷◌, ◌++◌, length, get_or, take, drop, set, filter, sym, refl, ap, ◌∙◌, arith}
-use Rattle.std.proofs.lemmas.List.{append_assoc, append-nil, length-append, length_push, drop-drop, drop_at, take_at, take_all, set_at, drop_more, flat_map_more, map_push, length-map}
+use Rattle.std.proofs.lemmas.List.{append_assoc, append-nil, length-append, length_push, drop-drop, drop_at, take_at, set_at, drop_more, flat_map_more, map_push, length-map}
 use Rattle.std.proofs.lemmas.List.Elements.{filter_more}
 use Rattle.std.proofs.lemmas.Bool.{cond-true, cond-false}
 use Rattle.records.specs.declared.packet.Kept.{Kept}
-use Rattle.places.specs.declared.record.Written.{Written}
-use Rattle.places.specs.Entries.{Entry, kept_of, over, written, all_bytes, all_kept}
+use Rattle.places.specs.Entries.{Entry, kept_of, over, all_bytes, all_kept}
 
 pub over_more : {A : Type 0} (xs ys d : List A) → take (length xs) (over xs d) ++ (ys ++ drop (length xs + length ys) (over xs d)) ≡ over (xs ++ ys) d
 over_more xs ys d =
@@ -47,8 +46,8 @@ writing_no {q} {es} {i} {rs₀} {rs} {bs₀} {bs} d x w lt gx h =
     }
 
 -- x stands at i, and is written
-pub writing_yes : {q : Entry → Bool} {es : List Entry} {i : ℕ} {rs₀ rs : List Kept} {bs₀ bs : List ℕ} {count at : ℕ} (d x : Entry) (rs' : List Kept) (bs' : List ℕ) (n : ℕ) → Writing q es i rs₀ rs bs₀ bs count at → i < length es → get_or es i d ≡ x → q x ≡ true → n ≡ length x.bytes → n ≤ 1500 → i < length rs₀ → rs' ≡ set rs count (kept_of x) → bs' ≡ take at bs ++ (x.bytes ++ drop (at + n) bs) → Writing q es (i + 1) rs₀ rs' bs₀ bs' (count + 1) (at + n)
-writing_yes {q} {es} {i} {rs₀} {rs} {bs₀} {bs} {count} {at} d x rs' bs' n w lt gx h en le room er eb =
+pub writing_yes : {q : Entry → Bool} {es : List Entry} {i : ℕ} {rs₀ rs rs' : List Kept} {bs₀ bs bs' : List ℕ} {count at count' at' : ℕ} (d x : Entry) (xs : List ℕ) → Writing q es i rs₀ rs bs₀ bs count at → i < length es → get_or es i d ≡ x → q x ≡ true → xs ≡ x.bytes → length xs ≤ 1500 → i < length rs₀ → rs' ≡ set rs count (kept_of x) → count' ≡ count + 1 → bs' ≡ take at bs ++ (xs ++ drop (at + length xs) bs) → at' ≡ at + length xs → Writing q es (i + 1) rs₀ rs' bs₀ bs' count' at'
+writing_yes {q} {es} {i} {rs₀} {rs} {rs'} {bs₀} {bs} {bs'} {count} {at} d x xs w lt gx h ex le room er ec eb ea =
     let ms = filter q (take i es) in
     let rd = all_kept ms in
     let bd = all_bytes ms in
@@ -57,33 +56,17 @@ writing_yes {q} {es} {i} {rs₀} {rs} {bs₀} {bs} {count} {at} d x rs' bs' n w 
     let j : all_bytes (ms ++ x ∷ []) ≡ bd ++ x.bytes = sym (flat_map_more (λ (e : Entry). e.bytes) [] ms x) in
     let k : all_kept (ms ++ x ∷ []) ≡ rd ++ kept_of x ∷ [] = map_push kept_of ms x in
     let c : count ≡ length rd = w.counted ∙ sym (length-map ms kept_of) in
-    let a : at ≡ length bd = w.long in
     record {
-      counted = omega (arith, w.counted, ap length m, length_push ms x);
-      long = omega (arith, ap (λ t. length (all_bytes t)) m, ap length j, length-append bd x.bytes);
+      counted = omega (arith, ec, w.counted, ap length m, length_push ms x);
+      long = omega (arith, ea, ap length ex, w.long, ap (λ t. length (all_bytes t)) m, ap length j, length-append bd x.bytes);
       records =
           er ∙ ap (λ t. set t count (kept_of x)) w.records ∙ ap (λ t. set (over rd rs₀) t (kept_of x)) c
           ∙ over_one rd rs₀ (kept_of x) (omega (arith, w.few)) ∙ ap (λ t. over t rs₀) (sym k) ∙ ap (λ t. over (all_kept t) rs₀) (sym m);
       bytes =
-          eb ∙ ap (λ t. take at t ++ (x.bytes ++ drop (at + n) t)) w.bytes
-          ∙ ap (λ t. take t (over bd bs₀) ++ (x.bytes ++ drop (t + n) (over bd bs₀))) a
-          ∙ ap (λ t. take (length bd) (over bd bs₀) ++ (x.bytes ++ drop (length bd + t) (over bd bs₀))) en
+          eb ∙ ap (λ t. take at bs ++ (t ++ drop (at + length t) bs)) ex
+          ∙ ap (λ t. take at t ++ (x.bytes ++ drop (at + length x.bytes) t)) w.bytes
+          ∙ ap (λ t. take t (over bd bs₀) ++ (x.bytes ++ drop (t + length x.bytes) (over bd bs₀))) w.long
           ∙ over_more bd x.bytes bs₀ ∙ ap (λ t. over t bs₀) (sym j) ∙ ap (λ t. over (all_bytes t) bs₀) (sym m);
       few = omega (arith, w.few);
       small = omega (arith, w.small);
-    }
-
-pub record Wrote (q : Entry → Bool) (es : List Entry) (rs₀ rs : List Kept) (bs₀ bs : List ℕ) (count at : ℕ) : Type 0 where
-  pub result : ◌≡◌ {A = Written} (record { count = count; bytes = at }) (written (filter q es))
-  pub records : rs ≡ over (all_kept (filter q es)) rs₀
-  pub bytes : bs ≡ over (all_bytes (filter q es)) bs₀
-
-pub writing_all : {q : Entry → Bool} {es : List Entry} {i : ℕ} {rs₀ rs : List Kept} {bs₀ bs : List ℕ} {count at : ℕ} → Writing q es i rs₀ rs bs₀ bs count at → length es ≤ i → Wrote q es rs₀ rs bs₀ bs count at
-writing_all {q} {es} {i} {rs₀} {rs} {bs₀} {bs} {count} {at} w le =
-    let m : filter q (take i es) ≡ filter q es = ap (filter q) (take_all i es le) in
-    let mk : ℕ → ℕ → Written = λ n l. record { count = n; bytes = l } in
-    record {
-      result = ap (λ n. mk n at) (w.counted ∙ ap length m) ∙ ap (mk (length (filter q es))) (w.long ∙ ap (λ t. length (all_bytes t)) m);
-      records = w.records ∙ ap (λ t. over (all_kept t) rs₀) m;
-      bytes = w.bytes ∙ ap (λ t. over (all_bytes t) bs₀) m;
     }

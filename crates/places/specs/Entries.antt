@@ -120,10 +120,6 @@ fits bs p = p.kept.len == length (entry bs p).bytes && nat_le p.kept.len 1500
 abbrev pub unfit : List (List ℕ) → Place → ℕ
 unfit bs p = cond (fits bs p) 0 1
 
--- 1 at a place with more than 1500 bytes.
-abbrev pub oversized : Place → ℕ
-oversized p = cond (nat_le p.kept.len 1500) 0 1
-
 -- ## The same of places, without the bytes
 
 -- The bytes that count, by the place's own length.
@@ -138,7 +134,6 @@ place_of slot p = p.slot == slot
 abbrev pub place_other : ℕ → Place → Bool
 place_other slot p = not (place_of slot p)
 
--- The first datagram of the attempt in the slot, among the places.
-abbrev pub place_first : List Place → ℕ → Option Datagram
-place_first [] slot = None
-place_first (p ∷ ps) slot = cond (place_of slot p && p.first) (Some p.kept.datagram) (place_first ps slot)
+-- Whether a place holds the first datagram of the attempt in this slot.
+abbrev pub place_leads : ℕ → Place → Bool
+place_leads slot p = place_of slot p && p.first

@@ -1,5 +1,5 @@
 ghost use Rattle.std.specs.Prelude.{◌≡◌};
-ghost use Rattle.places.specs.Entries.{place_weight};
+ghost use Rattle.places.specs.Entries.{place_of, place_weight};
 
 use records::packet::Kept;
 
@@ -15,6 +15,13 @@ pub struct Place {
 }
 
 impl Place {
+    /// Whether it is of the attempt in a slot.
+    pub(crate) fn is_of(&self, slot: u32) -> bool
+        ensures { result ≡ place_of slot self.now }
+    {
+        self.slot == slot
+    }
+
     /// Its bytes that count against the limits: those of a first datagram do not.
     pub fn weight(&self) -> u64
         ensures { result ≡ place_weight self.now }
