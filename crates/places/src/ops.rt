@@ -1,6 +1,7 @@
-ghost use Rattle.std.specs.Prelude.{◌≡◌, ℕ, ◌+◌, ◌-◌, ◌*◌, ◌<◌, ◌≤◌, [], ◌∷◌, ◌++◌, length, get_or, take, drop, sum_by, filter, nat_lt, slice_index_or, slice_set};
-ghost use Rattle.places.specs.declared.record.Place.{Place};
-ghost use Rattle.places.specs.Entries.{blank, names, outside, arrival, total, mine, without, attempts, first_of, written, over, all_bytes, all_kept, place_other};
+ghost use Rattle.std.specs.Prelude.{◌≡◌, ℕ, ◌+◌, ◌-◌, ◌*◌, ◌<◌, ◌≤◌, [], ◌∷◌, ◌++◌, length, take, drop, count_by, filter, nat_lt, slice_index_or, slice_set};
+ghost use Rattle.std.specs.List.{All, HoldsAt};
+ghost use Rattle.std.specs.List.Sorted.{IsPermutation};
+ghost use Rattle.places.specs.Entries.{names, arrival, total, mine, without, attempts, first_of, written, over, all_bytes, all_kept, place_other};
 ghost use Rattle.places.specs.Held.{entries, width};
 ghost use Rattle.places.specs.Stacks.{held};
 
@@ -32,7 +33,7 @@ impl<'a> Stack<'a, Place> {
     // The block that the next free place names.
     fn free_block(&self) -> usize
         requires { self.now.used < length self.now.items.now }
-        ensures { result ≡ (get_or self.now.items.now self.now.used blank).block }
+        ensures { HoldsAt (λ p. result ≡ p.block) self.now.items.now self.now.used }
     {
         self.items[self.used].block
     }
@@ -40,7 +41,7 @@ impl<'a> Stack<'a, Place> {
     // Takes the places of an attempt out.
     fn spend(&mut self, slot: u32)
         ensures front { held self.new ≡ filter (place_other slot) (held self.old) }
-        ensures moved { (f : Place → ℕ) → sum_by f self.new.items.now ≡ sum_by f self.old.items.now }
+        ensures moved { IsPermutation self.old.items.now self.new.items.now }
         ensures long { length self.new.items.now ≡ length self.old.items.now }
     {
         let used = self.used;
@@ -51,8 +52,8 @@ impl<'a> Stack<'a, Place> {
 // Each place names a block of its own; the rest of a free place is never read.
 fn clear(items: &mut [Place], blocks: usize)
     requires { length items.old ≤ blocks }
-    ensures apart { (b : ℕ) → sum_by (names b) items.new ≤ 1 }
-    ensures within { sum_by (outside blocks) items.new ≡ 0 }
+    ensures apart { (b : ℕ) → count_by (names b) items.new ≤ 1 }
+    ensures named { All (λ p. p.block < blocks) items.new }
     ensures long { length items.new ≡ length items.old }
 {
     for (i, place) in items.iter_mut().enumerate() {

@@ -1,7 +1,7 @@
 ghost use Rattle.std.specs.Prelude.{◌≡◌, ℕ, ◌+◌, ◌-◌, ◌<◌, ◌≤◌, ◌^◌, length, take, sum_by, count_by, filter};
 ghost use Rattle.std.specs.List.{find};
 ghost use Rattle.std.specs.Option.{option_map};
-ghost use Rattle.places.specs.declared.record.Place.{Place};
+ghost use Rattle.std.specs.List.Sorted.{IsPermutation};
 ghost use Rattle.places.specs.Entries.{place_weight, place_of, place_other, place_leads};
 
 use crate::record::Place;
@@ -49,7 +49,7 @@ pub fn compact(items: &mut [Place], used: usize, slot: u32) -> usize
     requires { used ≤ length items.old }
     ensures below { result ≤ used }
     ensures front { take result items.new ≡ filter (place_other slot) (take used items.old) }
-    ensures moved { (f : Place → ℕ) → sum_by f items.new ≡ sum_by f items.old }
+    ensures moved { IsPermutation items.old items.new }
     ensures long { length items.new ≡ length items.old }
 {
     let mut k = 0;

@@ -1,5 +1,6 @@
 ghost use Rattle.std.specs.Prelude.{◌≡◌, ◌+◌, ◌*◌, ◌<◌, ◌≤◌, [], ◌++◌, map, length, take, drop, sum_by, slice_index_or};
-ghost use Rattle.places.specs.Entries.{entry, outside, unfit, mine, over, written, all_bytes, all_kept};
+ghost use Rattle.std.specs.List.{All};
+ghost use Rattle.places.specs.Entries.{entry, HasBytes, mine, over, written, all_bytes, all_kept};
 
 use crate::record::{Place, Written};
 use crate::stack::Stack;
@@ -13,8 +14,8 @@ pub fn write_in(
     records: &mut [Kept],
     bytes: &mut [u8],
 ) -> Written
-    requires within { sum_by (outside (length blocks.now)) items.now ≡ 0 }
-    requires fitting { sum_by (unfit blocks.now) items.now ≡ 0 }
+    requires named { All (λ p. p.block < length blocks.now) items.now }
+    requires whole { All (HasBytes blocks.now) items.now }
     requires room { length items.now ≤ length records.old }
     requires wide { length items.now * 1500 ≤ length bytes.old }
     ensures written { result ≡ written (mine (map (entry blocks.now) items.now) slot) }

@@ -1,7 +1,7 @@
 use Rattle.std.proofs.Common.{◌<◌, length, get_or, sym, ◌∙◌, arith}
 use Rattle.std.proofs.lemmas.List.{get_or_default}
 use Rattle.std.proofs.lemmas.List.Filters.{FiltersInPlace-more_no, FiltersInPlace-more_swap}
-use Rattle.std.proofs.lemmas.List.Sorted.{sum_by-IsPermutation}
+use Rattle.std.proofs.lemmas.List.Sorted.{IsPermutation-trans}
 use Rattle.std.proofs.lemmas.Bool.{not_from_true, not_from_false}
 use Rattle.places.proofs.scan.compact.Goals as goal
 use Rattle.places.proofs.scan.compact.Goals.{then-not-is_of, else-not-is_of}
@@ -16,7 +16,7 @@ loop-i-preserved c =
       | then-not-is_of w ↦
           rw (w.items-is, w.k-is) (
             FiltersInPlace-more_swap {x = x} c.loop-i.invariant.0 lt (not_from_false _ (sym c.is_of.ensures ∙ w.if-not-is_of.true)) e w.swap.ensures.by_index,
-            λ f. sum_by-IsPermutation f _ _ w.swap.ensures.permutation ∙ c.loop-i.invariant.1 f,
+            IsPermutation-trans _ _ _ c.loop-i.invariant.1 w.swap.ensures.permutation,
           )
       | else-not-is_of w ↦
           rw (w.items-is, w.k-is)

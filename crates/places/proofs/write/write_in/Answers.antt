@@ -1,7 +1,7 @@
-use Rattle.std.proofs.Common.{◌<◌, map, length, set, sym, refl, ap, ◌∙◌, arith}
+use Rattle.std.proofs.Common.{◌<◌, map, length, set, sym, refl, ap, subst, ◌∙◌, arith}
 use lib.ListN.{length-map}
-use Rattle.places.specs.Entries.{entry, unfit}
-use Rattle.places.proofs.Views.{entry_at, none_at, fits_small, fits_size}
+use Rattle.places.specs.Entries.{entry, HasBytes}
+use Rattle.places.proofs.Views.{entry_at}
 use Rattle.places.proofs.Writes.{writing_no, writing_yes}
 use Rattle.places.proofs.write.write_in.Goals as goal
 use Rattle.places.proofs.write.write_in.Goals.{then-is_of, else-is_of}
@@ -15,16 +15,16 @@ loop-p-preserved c =
     let x = entry bs p in
     let lt : i < length ps = omega arith in
     let le : i < length (map (entry bs) ps) = rw length-map lt in
-    let u = none_at (unfit bs) ps i p lt c.p-item.is c.requires.fitting in
+    let h : HasBytes bs p = subst (HasBytes bs) (sym c.p-item.is) (c.requires.whole i p lt) in
     let at = entry_at bs ps i p lt c.p-item.is in
     let v = c.loop-p.invariant in
     elim c.if-is_of.branch [
       | then-is_of w ↦
           let e = w.extend_from_slice.ensures in
           let k = w.push.ensures in
-          let r = ap (λ n. set c.loop-p.kept.items.now c.loop-p.kept.used (record { datagram = p.kept.datagram; len = n })) (fits_size bs p u) in
+          let r = ap (λ n. set c.loop-p.kept.items.now c.loop-p.kept.used (record { datagram = p.kept.datagram; len = n })) h.0 in
           rw (w.kept-is, w.laid-is) (
-            writing_yes x x x.bytes v.0 le at (sym c.is_of.ensures ∙ w.if-is_of.true) refl (omega (arith, fits_size bs p u, fits_small bs p u)) (omega (arith, c.requires.room, ap length c.empty-kept.ensures.items)) (k.items ∙ r) k.used e.items e.used,
+            writing_yes x x x.bytes v.0 le at (sym c.is_of.ensures ∙ w.if-is_of.true) refl (omega (arith, h.0, h.1)) (omega (arith, c.requires.room, ap length c.empty-kept.ensures.items)) (k.items ∙ r) k.used e.items e.used,
             k.same ∙ v.1,
             e.same ∙ v.2,
           )

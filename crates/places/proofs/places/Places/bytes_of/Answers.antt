@@ -14,7 +14,7 @@ bytes_in-requires c =
       arith,
       ap (λ ps. sum_by place_weight (filter p ps)) c.as_slice.ensures,
       sum_kept_le place_weight p h,
-      light w.blocks.items.now h w.fitting,
+      light w.blocks.items.now h w.whole,
       length-take-le w.records.used w.records.items.now w.records.within,
       w.few,
     )
@@ -23,4 +23,4 @@ pub returns : goal.returns
 returns c =
     let w = c.args.self.now in
     c.bytes_in.ensures ∙ ap (λ ps. sum_by place_weight (filter (place_of c.args.slot) ps)) c.as_slice.ensures
-    ∙ sym (weights_of w.blocks.items.now (held w.records) c.args.slot w.fitting)
+    ∙ sym (weights_of w.blocks.items.now (held w.records) c.args.slot w.whole)

@@ -9,9 +9,9 @@ pub total_in-requires : goal.total_in-requires
 total_in-requires c =
     let w = c.args.self.now in
     let h = held w.records in
-    omega (arith, ap (sum_by place_weight) c.as_slice.ensures, light w.blocks.items.now h w.fitting, length-take-le w.records.used w.records.items.now w.records.within, w.few)
+    omega (arith, ap (sum_by place_weight) c.as_slice.ensures, light w.blocks.items.now h w.whole, length-take-le w.records.used w.records.items.now w.records.within, w.few)
 
 pub returns : goal.returns
 returns c =
     let w = c.args.self.now in
-    c.total_in.ensures ∙ ap (sum_by place_weight) c.as_slice.ensures ∙ sym (weights w.blocks.items.now (held w.records) w.fitting)
+    c.total_in.ensures ∙ ap (sum_by place_weight) c.as_slice.ensures ∙ sym (weights w.blocks.items.now (held w.records) w.whole)
