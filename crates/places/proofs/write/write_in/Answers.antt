@@ -1,8 +1,8 @@
-use Rattle.std.proofs.Common.{◌<◌, map, length, set, sym, refl, ap, subst, ◌∙◌, arith}
+use Rattle.std.proofs.Common.{◌<◌, map, length, set, sym, ap, subst, ◌∙◌, arith}
 use lib.ListN.{length-map}
 use Rattle.places.specs.Entries.{entry, HasBytes}
 use Rattle.places.proofs.Views.{entry_at}
-use Rattle.places.proofs.Writes.{writing_no, writing_yes}
+use Rattle.places.proofs.Writes.{kept_no, kept_yes, writing_no, writing_yes}
 use Rattle.places.proofs.write.write_in.Goals as goal
 use Rattle.places.proofs.write.write_in.Goals.{then-is_of, else-is_of}
 
@@ -23,10 +23,10 @@ loop-p-preserved c =
           let e = w.extend_from_slice.ensures in
           let k = w.push.ensures in
           let r = ap (λ n. set c.loop-p.kept.items.now c.loop-p.kept.used (record { datagram = p.kept.datagram; len = n })) h.0 in
-          rw (w.kept-is, w.laid-is) (
-            writing_yes x x x.bytes v.0 le at (sym c.is_of.ensures ∙ w.if-is_of.true) refl (omega (arith, h.0, h.1)) (omega (arith, c.requires.room, ap length c.empty-kept.ensures.items)) (k.items ∙ r) k.used e.items e.used,
+          rw (w.kept-is, w.laid-is, kept_yes _ _ i x x le at (sym c.is_of.ensures ∙ w.if-is_of.true)) (
+            writing_yes x v.0 (omega (arith, h.0, h.1)) (omega (arith, c.requires.room, ap length c.empty-kept.ensures.items)) (k.items ∙ r) k.used e.items e.used,
             k.same ∙ v.1,
             e.same ∙ v.2,
           )
-      | else-is_of w ↦ rw (w.kept-is, w.laid-is) (writing_no x x v.0 le at (sym c.is_of.ensures ∙ w.if-is_of.false), v.1, v.2)
+      | else-is_of w ↦ rw (w.kept-is, w.laid-is, kept_no _ _ i x x le at (sym c.is_of.ensures ∙ w.if-is_of.false)) (writing_no v.0, v.1, v.2)
     ]

@@ -4,7 +4,7 @@ use Rattle.std.proofs.lemmas.List.Sorted.{All-permutation, sum_by-IsPermutation}
 use Rattle.places.specs.declared.record.Place.{Place}
 use Rattle.places.specs.Entries.{names, HasBytes, place_other}
 use Rattle.places.specs.Stacks.{held}
-use Rattle.places.proofs.Views.{spent_entries}
+use Rattle.places.proofs.Views.{spent}
 use Rattle.places.proofs.places.Places.spend.Goals as goal
 
 pub invariant_of-self : goal.invariant_of-self
@@ -21,4 +21,4 @@ invariant_of-self c =
 
 pub returns-clause-entries : goal.returns-clause-entries
 returns-clause-entries c =
-    let w = c.args.self.now in spent_entries w.blocks.items.now (held w.records) _ c.args.slot c.spend.ensures.front
+    spent c.args.self.now _ c.args.slot c.spend.ensures.front
