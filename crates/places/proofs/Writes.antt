@@ -1,26 +1,27 @@
 -- A loop that writes what passes a test, one after another.
-use Rattle.std.proofs.Common.{◌≡◌, ℕ, ◌+◌, ◌*◌, ◌<◌, ◌≤◌, Bool, true, false, List, [], ◌∷◌, ◌++◌, length, get_or, take, drop, set, filter, sym, refl, ap, ◌∙◌, arith}
-use Rattle.std.proofs.lemmas.List.{append_assoc, length-append, length_push, drop-drop, drop_at, take_at, set_at, drop_more}
+use Rattle.std.proofs.Common.{◌≡◌, ℕ, ◌+◌, ◌*◌, ◌<◌, ◌≤◌, Bool, true, false, List, [], ◌∷◌, ◌++◌, length, get_or, take, drop, set, filter, refl, ap, ◌∙◌, arith}
+use Rattle.std.proofs.lemmas.List.{length-append, length_push, drop-drop, drop_at, take_at, set_at, drop_more}
 use Rattle.std.proofs.lemmas.List.Elements.{filter_more}
 use Rattle.records.specs.declared.packet.Kept.{Kept}
 use Rattle.std.proofs.lemmas.Grind.{common_steps}
 use Rattle.places.specs.Entries.{Entry, kept_of, over, all_bytes, all_kept}
 
-pub over_more : {A : Type 0} (xs ys d : List A) → take (length xs) (over xs d) ++ (ys ++ drop (length xs + length ys) (over xs d)) ≡ over (xs ++ ys) d
+-- more, laid behind what is laid over d
+over_more : {A : Type 0} (xs ys d : List A) → take (length xs) (over xs d) ++ (ys ++ drop (length xs + length ys) (over xs d)) ≡ over (xs ++ ys) d
 over_more xs ys d =
-    let a = length xs in
-    let b = length ys in
-    let t = take_at xs (drop a d) a refl in
-    let u : drop (a + b) (xs ++ drop a d) ≡ drop (a + b) d =
-    sym (drop-drop b a (xs ++ drop a d)) ∙ ap (drop b) (drop_at xs (drop a d) a refl) ∙ drop-drop b a d in
-    ap (λ v. v ++ (ys ++ drop (a + b) (over xs d))) t ∙ ap (λ v. xs ++ (ys ++ v)) u
-    ∙ sym (append_assoc xs ys (drop (a + b) d)) ∙ ap (λ n. (xs ++ ys) ++ drop n d) (sym (length-append xs ys))
+    let rest = drop (length xs) d in
+    let t = take_at xs rest (length xs) refl in
+    let u = drop_at xs rest (length xs) refl in
+    let v = drop-drop (length ys) (length xs) (xs ++ rest) in
+    let w = drop-drop (length ys) (length xs) d in
+    grind (arith, common_steps, t, u, v, w)
 
-pub over_one : {A : Type 0} (xs d : List A) (y : A) → length xs < length d → set (over xs d) (length xs) y ≡ over (xs ++ y ∷ []) d
+-- one more
+over_one : {A : Type 0} (xs d : List A) (y : A) → length xs < length d → set (over xs d) (length xs) y ≡ over (xs ++ y ∷ []) d
 over_one xs d y lt =
-    let a = length xs in
-    ap (λ v. set (xs ++ v) a y) (drop_more d a y lt) ∙ set_at xs (get_or d a y) (drop (a + 1) d) y a refl
-    ∙ sym (append_assoc xs (y ∷ []) (drop (a + 1) d)) ∙ ap (λ n. (xs ++ y ∷ []) ++ drop n d) (sym (length_push xs y))
+    let a = drop_more d (length xs) y lt in
+    let b = set_at xs (get_or d (length xs) y) (drop (length xs + 1) d) y (length xs) refl in
+    grind (arith, common_steps, a, b)
 
 -- the first i entries are done, of which those of ms are written over rs₀ and bs₀
 pub record Writing (ms : List Entry) (i : ℕ) (rs₀ rs : List Kept) (bs₀ bs : List ℕ) (count at : ℕ) : Type 0 where

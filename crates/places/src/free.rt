@@ -7,6 +7,7 @@ use crate::stack::Stack;
 pub type FreeList<'a> = Stack<'a, u32>;
 
 // From the highest down, so that the lowest is on top.
+#[tactic(auto, using(crate::proofs::Tops::piled))]
 fn pile(items: &mut [u32])
     requires { length items.old ≤ 1000 }
     ensures long { length items.new ≡ length items.old }

@@ -94,6 +94,7 @@ impl<'a> Places<'a> {
     }
 
     /// The bytes of all waiting datagrams, the first of each attempt apart.
+    #[tactic(auto, using(crate::proofs::Views::weights_held, crate::proofs::Views::light_held))]
     pub fn total(&self) -> u64
         ensures { result ≡ total (entries self.now) }
     {
@@ -101,6 +102,7 @@ impl<'a> Places<'a> {
     }
 
     /// The bytes that wait for one attempt, its first datagram apart.
+    #[tactic(auto, using(crate::proofs::Views::weights_of, crate::proofs::Views::light_of))]
     pub fn bytes_of(&self, slot: u32) -> u64
         ensures { result ≡ total (mine (entries self.now) slot) }
     {
@@ -115,6 +117,7 @@ impl<'a> Places<'a> {
     }
 
     /// The first datagram of the attempt in a slot.
+    #[tactic(auto, using(crate::proofs::Views::first_held))]
     pub fn find(&self, slot: u32) -> Option<Datagram>
         ensures { result ≡ first_of (entries self.now) slot }
     {
