@@ -13,12 +13,6 @@ use crate::write::write_in;
 use records::packet::{Datagram, Kept};
 
 impl<'a> Blocks<'a> {
-    fn all(&self) -> &[[u8; 1500]]
-        ensures { result.now ≡ self.now.items.now }
-    {
-        &*self.items
-    }
-
     // Lays the bytes at the front of a block.
     fn lay(&mut self, b: usize, bytes: &[u8])
         requires b_in_bounds { b < length self.old.items.now }
@@ -70,8 +64,8 @@ impl<'a> Places<'a> {
         ensures empty { entries result ≡ [] }
         ensures width { width result ≡ w }
     {
-        let items = &mut items[0..w];
-        let blocks = &mut blocks[0..w];
+        let items = &mut items[..w];
+        let blocks = &mut blocks[..w];
         clear(items, blocks.len());
         Places {
             records: Stack::empty(items),
@@ -163,7 +157,7 @@ impl<'a> Places<'a> {
     {
         write_in(
             self.records.as_slice(),
-            self.blocks.all(),
+            &*self.blocks.items,
             slot,
             records,
             bytes,

@@ -10,6 +10,7 @@ pub struct Place {
     pub slot: u32,
     /// Whether it is the one that opened the attempt.
     pub first: bool,
+    // A number and no borrow: places and blocks are both lent memory.
     pub block: usize,
     pub kept: Kept,
 }

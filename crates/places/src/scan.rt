@@ -53,6 +53,7 @@ pub fn compact(items: &mut [Place], used: usize, slot: u32) -> usize
     ensures long { length items.new ≡ length items.old }
 {
     let mut k = 0;
+    // By index: no method of slices moves what passes a test to the front, in order and without a buffer.
     for i in 0..used {
         if !items[i].is_of(slot) {
             // A swap keeps every block named by one place.

@@ -1,6 +1,7 @@
 ghost use Rattle.std.specs.Prelude.{◌≤◌, length};
 
 /// Values in lent memory, of which the first `used` are held; the one pushed last is on top.
+// A length beside a buffer and no `Vec`: the memory is lent.
 #[derive(Drop)]
 pub struct Stack<'a, T> {
     pub items: &'a mut [T],
@@ -62,7 +63,7 @@ impl<'a, T: Copy> Stack<'a, T> {
     }
 
     /// Puts values on top, in their order.
-    pub(crate) fn extend_from_slice(&mut self, xs: &[T])
+    pub fn extend_from_slice(&mut self, xs: &[T])
         requires { self.old.used + length xs.now ≤ length self.old.items.now }
         ensures same { self.new.items.ghost_name ≡ self.old.items.ghost_name }
         ensures items { self.new.items.now ≡ take self.old.used self.old.items.now ++ (xs.now ++ drop (self.old.used + length xs.now) self.old.items.now) }
