@@ -12,7 +12,7 @@ use Rattle.records.specs.Ids.{same_id, empty}
 use Rattle.records.specs.Received.{Datagram}
 use Rattle.supply.specs.Meaning.{Supplied}
 use Rattle.places.specs.Entries.{Entry}
-use Rattle.places.specs.Stacks.{top_of}
+use Rattle.places.specs.Free.{top_of}
 use Rattle.places.specs.Held.{entries}
 use Rattle.model.specs.Endpoint.{State, Waiting, Target, to_attempt, Outcome, put, with_waiting}
 use Rattle.waiting.specs.Groups.{groups, add, comes, proper}

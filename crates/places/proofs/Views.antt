@@ -11,7 +11,7 @@ use Rattle.std.specs.Option.{option_map}
 use Rattle.records.specs.declared.packet.Datagram.{Datagram}
 use Rattle.places.specs.declared.record.Place.{Place}
 use Rattle.places.specs.declared.places.Places.{Places}
-use Rattle.places.specs.Entries.{Entry, entry, arrival, names, HasBytes, weight, of_slot, mine, without, total, first_of, place_weight, place_of, place_other, place_leads}
+use Rattle.places.specs.Entries.{Entry, entry, arrival, names_block, HasBytes, weight, of_slot, mine, without, total, first_of, place_weight, place_of, place_other, place_leads}
 use Rattle.places.specs.Stacks.{held}
 use Rattle.places.specs.Held.{entries, width}
 
@@ -80,10 +80,10 @@ first_held w slot = firsts w.blocks.items.now (held w.records) slot
 -- ## One more
 
 -- the block of the place after the first u is named by none of these
-unnamed : (ps : List Place) (u b : ℕ) (x : Place) → u < length ps → ((c : ℕ) → count_by (names c) ps ≤ 1) → b ≡ (get_or ps u x).block → All (λ (p : Place). names b p ≡ false) (take u ps)
+unnamed : (ps : List Place) (u b : ℕ) (x : Place) → u < length ps → ((c : ℕ) → count_by (names_block c) ps ≤ 1) → b ≡ (get_or ps u x).block → All (λ (p : Place). names_block b p ≡ false) (take u ps)
 unnamed ps u b x lt apart e =
-    none_counted (names b) (take u ps)
-    (grind (arith, common_steps, apart b, count_by_more_yes (names b) ps u x lt, sum_by-take-le (λ (p : Place). cond {A = ℕ} (names b p) 1 0) ps (u + 1)))
+    none_counted (names_block b) (take u ps)
+    (grind (arith, common_steps, apart b, count_by_more_yes (names_block b) ps u x lt, sum_by-take-le (λ (p : Place). cond {A = ℕ} (names_block b p) 1 0) ps (u + 1)))
 
 -- and it is there
 pub in_blocks : (n : ℕ) (ps : List Place) (u b : ℕ) → u < length ps → All (λ (p : Place). p.block < n) ps → HoldsAt (λ (p : Place). b ≡ p.block) ps u → b < n
@@ -91,12 +91,12 @@ in_blocks n [] u b lt named e = absurd (omega arith)
 in_blocks n (p ∷ ps) u b lt named e = subst (λ m. m < n) (sym (e p)) (named u p lt)
 
 -- an entry whose block stays
-same_entry : (bs : List (List ℕ)) (b : ℕ) (v : List ℕ) (p : Place) → names b p ≡ false → entry (set bs b v) p ≡ entry bs p
+same_entry : (bs : List (List ℕ)) (b : ℕ) (v : List ℕ) (p : Place) → names_block b p ≡ false → entry (set bs b v) p ≡ entry bs p
 same_entry bs b v p n = grind (arith, common_steps)
 
 -- what holds after one more
 pub record Added (w : Places) (bs : List (List ℕ)) (ps : List Place) (u : ℕ) (e : Entry) : Type 0 where
-  pub apart : (b : ℕ) → count_by (names b) ps ≤ 1
+  pub apart : (b : ℕ) → count_by (names_block b) ps ≤ 1
   pub named : All (λ (p : Place). p.block < length bs) ps
   pub whole : All (HasBytes bs) (take u ps)
   pub entries : map (entry bs) (take u ps) ≡ entries w ++ e ∷ []
@@ -115,7 +115,7 @@ added w {b = b} slot first d xs free small eb ebs eps eu =
     let laid : take (length xs) (get_or (set bs b v) b []) ≡ xs = grind (arith, common_steps) in
     rw (ebs, eps, eu)
     (record {
-      apart = λ c. let s = sum_by-set (λ (p : Place). cond {A = ℕ} (names c p) 1 0) ps u x x lt in let h = w.apart c in grind (arith, s, eb x, h);
+      apart = λ c. let s = sum_by-set (λ (p : Place). cond {A = ℕ} (names_block c p) 1 0) ps u x x lt in let h = w.apart c in grind (arith, s, eb x, h);
       named = subst (λ n. All (λ (p : Place). p.block < n) (set ps u x)) (sym (length-set bs b v)) (All-set (λ (p : Place). p.block < length bs) ps u x there w.named);
       whole =
           All-same (HasBytes (set bs b v)) _ _ (take_more_set ps u x lt)
@@ -137,17 +137,17 @@ spent w ps slot e = ap (map (entry w.blocks.items.now)) e ∙ sym (kept_map (ent
 
 -- the first i places name the blocks below i
 pub record Fresh (ps : List Place) (n i : ℕ) : Type 0 where
-  pub each : (b : ℕ) → count_by (names b) (take i ps) ≡ cond (ltb b i) 1 0
+  pub each : (b : ℕ) → count_by (names_block b) (take i ps) ≡ cond (ltb b i) 1 0
   pub named : All (λ (p : Place). p.block < n) (take i ps)
 
 pub fresh_more : (ps : List Place) (n i : ℕ) (x : Place) → Fresh ps n i → i < length ps → i < n → x.block ≡ i → Fresh (set ps i x) n (i + 1)
 fresh_more ps n i x f lt l e =
     let t = take_more_set ps i x lt in
     record {
-      each = λ b. let h = f.each b in let s = sum_by_push (λ (p : Place). cond {A = ℕ} (names b p) 1 0) (take i ps) x in rw t (grind (arith, nat_tests, h, s));
+      each = λ b. let h = f.each b in let s = sum_by_push (λ (p : Place). cond {A = ℕ} (names_block b p) 1 0) (take i ps) x in rw t (grind (arith, nat_tests, h, s));
       named = rw t (All-push (λ (p : Place). p.block < n) (take i ps) x f.named (omega arith));
     }
 
-pub fresh_all : (ps : List Place) (n i : ℕ) → Fresh ps n i → length ps ≤ i → ((b : ℕ) → count_by (names b) ps ≤ 1) × All (λ (p : Place). p.block < n) ps
+pub fresh_all : (ps : List Place) (n i : ℕ) → Fresh ps n i → length ps ≤ i → ((b : ℕ) → count_by (names_block b) ps ≤ 1) × All (λ (p : Place). p.block < n) ps
 fresh_all ps n i f le =
     let t = take_all i ps le in (λ b. let h = f.each b in grind (arith, h, t), rw t at f.named)

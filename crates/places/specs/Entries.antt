@@ -80,8 +80,8 @@ entry bs p = record {
 }
 
 -- Whether a place names the block b.
-abbrev pub names : ℕ → Place → Bool
-names b p = p.block == b
+abbrev pub names_block : ℕ → Place → Bool
+names_block b p = p.block == b
 
 -- A place has as many bytes as it says, and at most 1500.
 abbrev pub HasBytes : List (List ℕ) → Place → Type 0

@@ -2,6 +2,7 @@
 use Rattle.std.specs.Prelude.{ℕ, zero, suc, ◌+◌, List, [], ◌∷◌}
 use Rattle.places.specs.declared.stack.Stack.{Stack}
 use Rattle.places.specs.Stacks.{top_down}
+pub use Rattle.places.specs.Stacks.{top_of}
 
 -- The numbers that are free, the top first.
 abbrev pub free_list : Stack ℕ → List ℕ

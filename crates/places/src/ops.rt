@@ -1,7 +1,7 @@
 ghost use Rattle.std.specs.Prelude.{◌≡◌, ℕ, ◌+◌, ◌-◌, ◌*◌, ◌<◌, ◌≤◌, [], ◌∷◌, ◌++◌, length, take, drop, count_by, filter, nat_lt, slice_index_or, slice_set};
 ghost use Rattle.std.specs.List.{All, HoldsAt};
 ghost use Rattle.std.specs.List.Sorted.{IsPermutation};
-ghost use Rattle.places.specs.Entries.{names, arrival, total, mine, without, attempts, first_of, written, over, all_bytes, all_kept, place_other};
+ghost use Rattle.places.specs.Entries.{names_block, arrival, total, mine, without, attempts, first_of, written, over, all_bytes, all_kept, place_other};
 ghost use Rattle.places.specs.Held.{entries, width};
 ghost use Rattle.places.specs.Stacks.{held};
 
@@ -46,7 +46,7 @@ impl<'a> Stack<'a, Place> {
 // Each place names a block of its own; the rest of a free place is never read.
 fn clear(items: &mut [Place], blocks: usize)
     requires { length items.old ≤ blocks }
-    ensures apart { (b : ℕ) → count_by (names b) items.new ≤ 1 }
+    ensures apart { (b : ℕ) → count_by (names_block b) items.new ≤ 1 }
     ensures named { All (λ p. p.block < blocks) items.new }
     ensures long { length items.new ≡ length items.old }
 {

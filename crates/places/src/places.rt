@@ -1,6 +1,6 @@
 ghost use Rattle.std.specs.Prelude.{ℕ, ◌<◌, ◌≤◌, length, take, count_by};
 ghost use Rattle.std.specs.List.{All};
-ghost use Rattle.places.specs.Entries.{names, HasBytes};
+ghost use Rattle.places.specs.Entries.{names_block, HasBytes};
 
 use crate::record::Place;
 use crate::stack::Stack;
@@ -17,7 +17,7 @@ pub struct Places<'a> {
     pub records: Stack<'a, Place>,
     pub blocks: Blocks<'a>,
     ghost few: { length records.items.now ≤ 128 },
-    ghost apart: { (b : ℕ) → count_by (names b) records.items.now ≤ 1 },
+    ghost apart: { (b : ℕ) → count_by (names_block b) records.items.now ≤ 1 },
     ghost named: { All (λ p. p.block < length blocks.items.now) records.items.now },
     ghost whole: { All (HasBytes blocks.items.now) (take records.used records.items.now) },
 }
