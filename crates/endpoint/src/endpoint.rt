@@ -4,7 +4,7 @@ ghost use Rattle.records.specs.declared.shared.ConnectionId.{ConnectionId};
 ghost use Rattle.records.specs.Ids.{same_id, empty};
 ghost use Rattle.records.specs.Keys.{hash_id, same_pair, hash_pair, same_sender, hash_sender};
 ghost use Rattle.places.specs.Free.{free_list};
-ghost use Rattle.places.specs.Held.{entries, width, Sound};
+ghost use Rattle.places.specs.Held.{entries, width};
 ghost use Rattle.waiting.specs.Groups.{groups, holding, proper};
 ghost use Rattle.waiting.specs.Leads.{is_slot, lead, goes, returns_to, clear_at, entered};
 ghost use Rattle.index.specs.Routes.{initial_of};
@@ -42,7 +42,6 @@ pub struct Endpoint<'a> {
     handles: FreeList<'a>,
     index: ConnectionIndex<'a>,
     ghost few_incoming: { ready ≡ true → settings.max_incoming ≤ 64 },
-    ghost sound: { ready ≡ true → Sound places },
     ghost initial_reached: { ready ≡ true → Reached same_id hash_id index.connection_ids_initial.slots.now },
     ghost ids_reached: { ready ≡ true → Reached same_id hash_id index.connection_ids.slots.now },
     ghost pairs_reached: { ready ≡ true → Reached same_pair hash_pair index.incoming_connection_remotes.slots.now },

@@ -1,7 +1,7 @@
 ghost use Rattle.std.specs.Prelude.{◌≡◌, ℕ, ◌≤◌, true, [], length, if◌then◌else◌};
 ghost use Rattle.table.specs.Slots.{Cleared, Reached, used};
 ghost use Rattle.places.specs.Free.{free_list, counting};
-ghost use Rattle.places.specs.Held.{entries, width, Sound};
+ghost use Rattle.places.specs.Held.{entries, width};
 ghost use Rattle.index.specs.Conns.{conns_of};
 ghost use Rattle.endpoint.specs.Parts.{none, Fresh};
 
@@ -34,7 +34,6 @@ pub(crate) fn places_over<'a>(
     requires places { ready ≡ true → w ≤ length places.old }
     requires blocks { ready ≡ true → w ≤ length blocks.old }
     requires most { ready ≡ true → w ≤ 128 }
-    ensures sound { Sound result }
     ensures empty { entries result ≡ [] }
     ensures width { ready ≡ true → width result ≡ w }
 {

@@ -1,4 +1,3 @@
-pub mod Sums
 pub mod Views
 pub mod Writes
 pub mod Tops

@@ -1,21 +1,7 @@
-use Rattle.std.proofs.Common.{◌≡◌, ℕ, zero, suc, ◌+◌, ◌-◌, ◌<◌, ◌≤◌, List, [], ◌∷◌, reverse, length, get_or, take, drop, Some, sym, refl, ap, ◌∙◌, inl, inr, arith}
-use Rattle.std.proofs.lemmas.Bool.{cases_lt}
-use Rattle.places.specs.Free.{top_of, counting}
-use Rattle.std.proofs.lemmas.List.{take_more, reverse-append, length-reverse, length-take-le, get_or-reverse, ext_get_or}
-
--- the top, and what is below it
-pub last_on_top : (xs : List ℕ) (u : ℕ) → 0 < u → u ≤ length xs → reverse (take u xs) ≡ get_or xs (u - 1) 0 ∷ reverse (take (u - 1) xs)
-last_on_top xs u lt le =
-    let k : u - 1 + 1 ≡ u = omega arith in
-    ap (λ n. reverse (take n xs)) (sym k) ∙ ap reverse (take_more xs (u - 1) 0 (omega arith)) ∙ reverse-append (take (u - 1) xs) (get_or xs (u - 1) 0 ∷ [])
-
--- without its top
-pub less_one : (xs : List ℕ) (u : ℕ) → u ≤ length xs → reverse (take (u - 1) xs) ≡ drop 1 (reverse (take u xs))
-less_one xs u le =
-    elim (cases_lt 0 u) [
-      | inl p ↦ sym (ap (drop 1) (last_on_top xs u p le))
-      | inr z ↦ let e : u ≡ 0 = omega arith in rw e refl
-    ]
+use Rattle.std.proofs.Common.{◌≡◌, ℕ, zero, suc, ◌+◌, ◌-◌, ◌<◌, ◌≤◌, List, [], ◌∷◌, reverse, length, get_or, take, drop, Some, sym, refl, ap, ◌∙◌, arith}
+use Rattle.places.specs.Stacks.{top_of}
+use Rattle.places.specs.Free.{counting}
+use Rattle.std.proofs.lemmas.List.{length-reverse, length-take-le, get_or-reverse, ext_get_or}
 
 pub free_length : (xs : List ℕ) (u : ℕ) → u ≤ length xs → length (reverse (take u xs)) ≡ u
 free_length xs u le = length-reverse (take u xs) ∙ length-take-le u xs le
@@ -24,23 +10,21 @@ pub top_cons : (l : List ℕ) (x : ℕ) → Some x ≡ top_of l → l ≡ x ∷ 
 top_cons [] x h = let z : ◌≡◌ {A = ℕ} 0 1 = cc in absurd (omega arith)
 top_cons (y ∷ l) x h = let e : x ≡ y = cc in ap (λ n. n ∷ l) (sym e)
 
-pub length_counting : (i n : ℕ) → length (counting i n) ≡ n
+length_counting : (i n : ℕ) → length (counting i n) ≡ n
 length_counting i zero = refl
-length_counting i (suc n) = ap suc (length_counting (i + 1) n)
+length_counting i (suc n) = grind (arith, length_counting (i + 1) n)
 
-pub get_or_counting : (i n k : ℕ) → k < n → get_or (counting i n) k 0 ≡ i + k
+get_or_counting : (i n k : ℕ) → k < n → get_or (counting i n) k 0 ≡ i + k
 get_or_counting i zero k h = absurd (omega arith)
 get_or_counting i (suc n) zero h = omega arith
-get_or_counting i (suc n) (suc k) h = let r = get_or_counting (i + 1) n k (omega arith) in omega arith
+get_or_counting i (suc n) (suc k) h = omega (arith, get_or_counting (i + 1) n k (omega arith))
 
 -- written from the highest down
-pub piled : (xs : List ℕ) (n : ℕ) → length xs ≡ n → ((k : ℕ) → k < n → get_or xs k 0 ≡ n - 1 - k) → reverse xs ≡ counting 0 n
-piled xs n long at =
-    ext_get_or 0 (reverse xs) (counting 0 n) (length-reverse xs ∙ long ∙ sym (length_counting 0 n))
+pub piled : (xs : List ℕ) → ((k : ℕ) → k < length xs → get_or xs k 0 ≡ length xs - 1 - k) → reverse xs ≡ counting 0 (length xs)
+piled xs at =
+    ext_get_or 0 (reverse xs) (counting 0 (length xs)) (length-reverse xs ∙ sym (length_counting 0 (length xs)))
     (λ k h.
     let l = length-reverse xs in
-    let r = get_or-reverse xs k 0 (omega arith) in
-    let e = ap (λ m. get_or xs m 0) (let q : length xs - 1 - k ≡ n - 1 - k = omega arith in q) in
-    let g = at (n - 1 - k) (omega arith) in
-    let c = get_or_counting 0 n k (omega arith) in
-    r ∙ e ∙ g ∙ omega arith)
+    let r = get_or_counting 0 (length xs) k (omega arith) in
+    let g = at (length xs - 1 - k) (omega arith) in
+    get_or-reverse xs k 0 (omega arith) ∙ g ∙ omega arith)

@@ -1,235 +1,153 @@
 -- From the places, and the blocks that they name, to the entries.
-use Rattle.std.proofs.Common.{◌≡◌, ℕ, ◌+◌, ◌<◌, ◌≤◌, Bool, true, false, cond, not, ◌&&◌, eqb, ltb, leb, ◌≢◌, List, [], ◌∷◌, ◌++◌, map, length, get_or, take, drop, set, Some, sum_by, filter, sym, refl, ap, ◌∙◌, arith}
-use Rattle.std.proofs.lemmas.List.{length-map, get_or-map, length-take-le, take_all, take_more_set, map_push, take_at, get_or-set_same, get_or-set_other, length-set, get_or_default}
-use Rattle.std.proofs.lemmas.List.Sums.{sum_by-cons, sum_by_more, sum_by-take-le, sum_by-set, sum_by_push, get_or-le-sum_by}
+use Rattle.std.proofs.Common.{◌≡◌, ℕ, ◌+◌, ◌<◌, ◌≤◌, Bool, false, cond, not, ltb, List, [], ◌∷◌, ◌++◌, map, length, get_or, take, drop, set, sum_by, count_by, filter, sym, refl, ap, ◌∙◌, subst, arith}
+use Rattle.std.proofs.lemmas.Grind.{common_steps}
+use Rattle.std.proofs.lemmas.List.{length-take-le, take_all, take_more_set, map_push, length-set}
+use Rattle.std.proofs.lemmas.List.Sums.{sum_by-take-le, sum_by-set, get_or-le-sum_by, count_by_more_yes, sum_by-le, sum_by_push}
+use Rattle.std.proofs.lemmas.List.Elements.{All-head, All-tail, All-same, All-set, All-push, All-filter}
 use Rattle.std.proofs.lemmas.List.Filters.{sum_by-filter_both}
-use Rattle.std.proofs.lemmas.Bool.{cond-true, and_parts, eqb-true, eqb-false, eq-eqb, ltb-true, leb-true, lt-ltb, le-leb, and_from}
-use Rattle.places.specs.declared.record.Place.{Place}
-use Rattle.records.specs.declared.packet.Datagram.{Datagram}
 use Rattle.std.proofs.lemmas.Bool.Decides.{nat_tests}
-use Rattle.places.specs.Entries.{Entry, entry, arrival, blank, names, outside, unfit, fits, oversized, weight, of_slot, mine, without, total, first_of, place_weight, place_of, place_other, place_first}
+use Rattle.std.specs.List.{find, All, HoldsAt}
+use Rattle.std.specs.Option.{option_map}
+use Rattle.records.specs.declared.packet.Datagram.{Datagram}
+use Rattle.places.specs.declared.record.Place.{Place}
+use Rattle.places.specs.declared.places.Places.{Places}
+use Rattle.places.specs.Entries.{Entry, entry, arrival, names_block, HasBytes, weight, of_slot, mine, without, total, first_of, place_weight, place_of, place_other, place_leads}
+use Rattle.places.specs.Stacks.{held}
+use Rattle.places.specs.Held.{entries, width}
 
--- ## Tests as numbers
+-- ## Maps and counts
 
--- a test that counts 1 where it fails
-pub passed : (b : Bool) → ◌≡◌ {A = ℕ} (cond b 0 1) 0 → b ≡ true
-passed true e = refl
-passed false e = absurd (omega arith)
-
-pub missed : (b : Bool) → ◌≡◌ {A = ℕ} (cond b 1 0) 0 → b ≡ false
-missed true e = absurd (omega arith)
-missed false e = refl
-
--- ## Maps, filters and sums
-
-pub map_cond : {X Y : Type 0} (g : X → Y) (b : Bool) (xs ys : List X) → map g (cond b xs ys) ≡ cond b (map g xs) (map g ys)
-map_cond g true xs ys = refl
-map_cond g false xs ys = refl
-
-pub kept_map : {X Y : Type 0} (g : X → Y) (p : Y → Bool) (xs : List X) → filter p (map g xs) ≡ map g (filter (λ x. p (g x)) xs)
+-- what is kept of a list that is mapped
+kept_map : {X Y : Type 0} (g : X → Y) (p : Y → Bool) (xs : List X) → filter p (map g xs) ≡ map g (filter (λ x. p (g x)) xs)
 kept_map g p [] = refl
-kept_map g p (x ∷ xs) =
-    ap (λ t. cond (p (g x)) (g x ∷ t) t) (kept_map g p xs) ∙ sym (map_cond g (p (g x)) (x ∷ filter (λ y. p (g y)) xs) (filter (λ y. p (g y)) xs))
+kept_map g p (x ∷ xs) = grind (arith, common_steps, kept_map g p xs)
 
-pub sum_map : {X Y : Type 0} (f : Y → ℕ) (g : X → Y) (xs : List X) → sum_by f (map g xs) ≡ sum_by (λ x. f (g x)) xs
-sum_map f g [] = refl
-sum_map f g (x ∷ xs) = omega (arith, sum_by-cons f (g x) (map g xs), sum_by-cons (λ y. f (g y)) x xs, sum_map f g xs)
+-- two functions that are equal at each element
+map_same : {X Y : Type 0} (f g : X → Y) (xs : List X) → All (λ x. f x ≡ g x) xs → map f xs ≡ map g xs
+map_same f g [] h = refl
+map_same f g (x ∷ xs) h = let a = All-head (λ y. f y ≡ g y) x xs h in grind (arith, common_steps, a, map_same f g xs (All-tail (λ y. f y ≡ g y) x xs h))
 
-pub sum_kept_none : {X : Type 0} (f : X → ℕ) (p : X → Bool) (xs : List X) → sum_by f xs ≡ 0 → sum_by f (filter p xs) ≡ 0
-sum_kept_none f p xs e = omega (arith, sum_by-filter_both p (λ x. not (p x)) (λ _. refl) f xs)
+-- a test that nothing passes fails everywhere
+none_counted : {X : Type 0} (q : X → Bool) (xs : List X) → count_by q xs ≡ 0 → All (λ x. q x ≡ false) xs
+none_counted q xs z k d lt = let s = get_or-le-sum_by (λ x. cond {A = ℕ} (q x) 1 0) xs k d lt in grind (arith, s)
 
--- ## Entries
-
-pub fits_size : (bs : List (List ℕ)) (p : Place) → unfit bs p ≡ 0 → p.kept.len ≡ length (entry bs p).bytes
-fits_size bs p u = eqb-true _ _ (and_parts _ _ (passed (fits bs p) u)).0
-
-pub fits_small : (bs : List (List ℕ)) (p : Place) → unfit bs p ≡ 0 → p.kept.len ≤ 1500
-fits_small bs p u = leb-true _ _ (and_parts _ _ (passed (fits bs p) u)).1
+-- ## What is asked
 
 pub entry_at : (bs : List (List ℕ)) (ps : List Place) (i : ℕ) (p : Place) → i < length ps → p ≡ get_or ps i p → get_or (map (entry bs) ps) i (entry bs p) ≡ entry bs p
-entry_at bs ps i p lt e = get_or-map (entry bs) ps i p (entry bs p) lt ∙ ap (entry bs) (sym e)
+entry_at bs ps i p lt e = grind (arith, common_steps)
 
--- where a test that counts sums up to 0, it is 0 at each place
-pub none_at : (f : Place → ℕ) (ps : List Place) (i : ℕ) (p : Place) → i < length ps → p ≡ get_or ps i p → sum_by f ps ≡ 0 → f p ≡ 0
-none_at f ps i p lt e z = omega (arith, get_or-le-sum_by f ps i p lt, ap f e)
+-- there is room for a datagram where a place is free
+pub room : (w : Places) → length (entries w) < width w → w.records.used < length w.records.items.now
+room w lt = let h = w.records.within in grind (arith, common_steps)
 
--- a place that fits is not too long
-pub none_over : (bs : List (List ℕ)) (ps : List Place) → sum_by (unfit bs) ps ≡ 0 → sum_by oversized ps ≡ 0
-none_over bs [] u = refl
-none_over bs (p ∷ ps) u =
-    let k = sum_by-cons (unfit bs) p ps in
-    let s = cond-true {A = ℕ} (leb p.kept.len 1500) 0 1 (le-leb _ _ (fits_small bs p (omega arith))) in
-    let r = none_over bs ps (omega arith) in
-    omega (arith, sum_by-cons oversized p ps)
+weights : (bs : List (List ℕ)) (ps : List Place) → All (HasBytes bs) ps → sum_by weight (map (entry bs) ps) ≡ sum_by place_weight ps
+weights bs [] h = refl
+weights bs (p ∷ ps) h =
+    let a = All-head (HasBytes bs) p ps h in grind (arith, common_steps, a, weights bs ps (All-tail (HasBytes bs) p ps h))
 
-pub short_at : (ps : List Place) (i : ℕ) (p : Place) → i < length ps → p ≡ get_or ps i p → sum_by oversized ps ≡ 0 → p.kept.len ≤ 1500
-short_at ps i p lt e z = leb-true _ _ (passed (leb p.kept.len 1500) (none_at oversized ps i p lt e z))
+-- the bytes that count, by the places' own lengths
+pub weights_held : (w : Places) → total (entries w) ≡ sum_by place_weight (held w.records)
+weights_held w = weights w.blocks.items.now (held w.records) w.whole
 
-pub light_at : (ps : List Place) (i : ℕ) (p : Place) → i < length ps → p ≡ get_or ps i p → sum_by oversized ps ≡ 0 → place_weight p ≤ 1500
-light_at ps i p lt e z = below p.first (short_at ps i p lt e z)
+-- those of one attempt
+pub weights_of : (w : Places) (slot : ℕ) → total (mine (entries w) slot) ≡ sum_by place_weight (filter (place_of slot) (held w.records))
+weights_of w slot =
+    let bs = w.blocks.items.now in
+    let ps = held w.records in
+    ap (sum_by weight) (kept_map (entry bs) (of_slot slot) ps) ∙ weights bs (filter (place_of slot) ps) (All-filter (place_of slot) (HasBytes bs) ps w.whole)
+
+-- places weigh at most 1500 each
+pub light_held : (w : Places) → sum_by place_weight (held w.records) ≤ 192000
+light_held w =
+    let ps = held w.records in
+    let a : All (λ (p : Place). place_weight p ≤ 1500) ps = λ k d lt. light (get_or ps k d) (w.whole k d lt).1 in
+    omega (arith, sum_by-le place_weight 1500 ps a, length-take-le w.records.used w.records.items.now w.records.within, w.few, w.records.within)
   where
-    below : (b : Bool) → p.kept.len ≤ 1500 → cond b 0 p.kept.len ≤ 1500
-    below true h = omega arith
-    below false h = h
+    light : (p : Place) → p.kept.len ≤ 1500 → place_weight p ≤ 1500
+    light p h = grind arith
 
-pub weights : (bs : List (List ℕ)) (ps : List Place) → sum_by (unfit bs) ps ≡ 0 → sum_by weight (map (entry bs) ps) ≡ sum_by place_weight ps
-weights bs [] u = refl
-weights bs (p ∷ ps) u =
-    let k = sum_by-cons (unfit bs) p ps in
-    let r = weights bs ps (omega arith) in
-    let s : cond p.first 0 (length (entry bs p).bytes) ≡ cond p.first 0 p.kept.len = ap (cond p.first 0) (sym (fits_size bs p (omega arith))) in
-    omega (arith, sum_by-cons weight (entry bs p) (map (entry bs) ps), sum_by-cons place_weight p ps)
+pub light_of : (w : Places) (slot : ℕ) → sum_by place_weight (filter (place_of slot) (held w.records)) ≤ 192000
+light_of w slot = omega (arith, light_held w, sum_by-filter_both (place_of slot) (place_other slot) (λ _. refl) place_weight (held w.records))
 
-pub firsts : (bs : List (List ℕ)) (ps : List Place) (slot : ℕ) → first_of (map (entry bs) ps) slot ≡ place_first ps slot
+firsts : (bs : List (List ℕ)) (ps : List Place) (slot : ℕ) → first_of (map (entry bs) ps) slot ≡ option_map (λ (p : Place). p.kept.datagram) (find (place_leads slot) ps)
 firsts bs [] slot = refl
-firsts bs (p ∷ ps) slot = ap (cond (place_of slot p && p.first) (Some p.kept.datagram)) (firsts bs ps slot)
+firsts bs (p ∷ ps) slot = grind (arith, common_steps, firsts bs ps slot)
 
--- the bytes of an attempt
-pub weights_of : (bs : List (List ℕ)) (ps : List Place) (slot : ℕ) → sum_by (unfit bs) ps ≡ 0 → total (mine (map (entry bs) ps) slot) ≡ sum_by place_weight (filter (place_of slot) ps)
-weights_of bs ps slot u =
-    ap (sum_by weight) (kept_map (entry bs) (of_slot slot) ps)
-    ∙ weights bs (filter (place_of slot) ps) (sum_kept_none (unfit bs) (place_of slot) ps u)
+-- the first datagram of an attempt, by its place
+pub first_held : (w : Places) (slot : ℕ) → first_of (entries w) slot ≡ option_map (λ (p : Place). p.kept.datagram) (find (place_leads slot) (held w.records))
+first_held w slot = firsts w.blocks.items.now (held w.records) slot
 
 -- ## One more
 
--- a block that no place names
-pub untouched : (bs : List (List ℕ)) (b : ℕ) (v : List ℕ) (ps : List Place) → sum_by (names b) ps ≡ 0 → map (entry (set bs b v)) ps ≡ map (entry bs) ps
-untouched bs b v [] z = refl
-untouched bs b v (p ∷ ps) z =
-    let k = sum_by-cons (names b) p ps in
-    let ne : p.block ≢ b = eqb-false p.block b (missed (eqb p.block b) (omega arith)) in
-    let e = get_or-set_other bs b p.block v [] ne in
-    let r = untouched bs b v ps (omega arith) in
-    ap (λ t. arrival p.slot p.first p.kept.datagram (take p.kept.len t) ∷ map (entry (set bs b v)) ps) e ∙ ap (λ t. entry bs p ∷ t) r
-
-pub untouched_fits : (bs : List (List ℕ)) (b : ℕ) (v : List ℕ) (ps : List Place) → sum_by (names b) ps ≡ 0 → sum_by (unfit (set bs b v)) ps ≡ sum_by (unfit bs) ps
-untouched_fits bs b v [] z = refl
-untouched_fits bs b v (p ∷ ps) z =
-    let k = sum_by-cons (names b) p ps in
-    let ne : p.block ≢ b = eqb-false p.block b (missed (eqb p.block b) (omega arith)) in
-    let n : List ℕ → ℕ = λ t. cond (eqb p.kept.len (length (take p.kept.len t)) && leb p.kept.len 1500) 0 1 in
-    let e = ap n (get_or-set_other bs b p.block v [] ne) in
-    let r = untouched_fits bs b v ps (omega arith) in
-    omega (arith, sum_by-cons (unfit (set bs b v)) p ps, sum_by-cons (unfit bs) p ps)
-
 -- the block of the place after the first u is named by none of these
-pub free_front : (ps : List Place) (u : ℕ) → u < length ps → ((b : ℕ) → sum_by (names b) ps ≤ 1) → sum_by (names (get_or ps u blank).block) (take u ps) ≡ 0
-free_front ps u lt apart =
-    let b = (get_or ps u blank).block in
-    omega (
-      arith,
-      apart b,
-      sum_by-take-le (names b) ps (u + 1),
-      sum_by_more (names b) ps u blank lt,
-      cond-true {A = ℕ} (eqb b b) 1 0 (eq-eqb b b refl),
-    )
+unnamed : (ps : List Place) (u b : ℕ) (x : Place) → u < length ps → ((c : ℕ) → count_by (names_block c) ps ≤ 1) → b ≡ (get_or ps u x).block → All (λ (p : Place). names_block b p ≡ false) (take u ps)
+unnamed ps u b x lt apart e =
+    none_counted (names_block b) (take u ps)
+    (grind (arith, common_steps, apart b, count_by_more_yes (names_block b) ps u x lt, sum_by-take-le (λ (p : Place). cond {A = ℕ} (names_block b p) 1 0) ps (u + 1)))
 
-pub block_at : (w : ℕ) (ps : List Place) (i : ℕ) (p : Place) → i < length ps → p ≡ get_or ps i p → sum_by (outside w) ps ≡ 0 → p.block < w
-block_at w ps i p lt e z = ltb-true _ _ (passed (ltb p.block w) (none_at (outside w) ps i p lt e z))
+-- and it is there
+pub in_blocks : (n : ℕ) (ps : List Place) (u b : ℕ) → u < length ps → All (λ (p : Place). p.block < n) ps → HoldsAt (λ (p : Place). b ≡ p.block) ps u → b < n
+in_blocks n [] u b lt named e = absurd (omega arith)
+in_blocks n (p ∷ ps) u b lt named e = subst (λ m. m < n) (sym (e p)) (named u p lt)
 
-pub within_block : (w : ℕ) (ps : List Place) (u : ℕ) → u < length ps → sum_by (outside w) ps ≡ 0 → (get_or ps u blank).block < w
-within_block w ps u lt z = block_at w ps u (get_or ps u blank) lt (get_or_default ps u blank (get_or ps u blank) lt) z
-
-abbrev pub laid : List (List ℕ) → ℕ → List ℕ → List (List ℕ)
-laid bs b xs = set bs b (xs ++ drop (length xs) (get_or bs b []))
-
-abbrev pub placed : List Place → ℕ → ℕ → Bool → Datagram → ℕ → Place
-placed ps u slot first d n = record { slot = slot; first = first; block = (get_or ps u blank).block; kept = record { datagram = d; len = n } }
-
-pub laid_bytes : (bs : List (List ℕ)) (b : ℕ) (xs : List ℕ) → b < length bs → take (length xs) (get_or (laid bs b xs) b []) ≡ xs
-laid_bytes bs b xs within =
-    ap (take (length xs)) (get_or-set_same bs b (xs ++ drop (length xs) (get_or bs b [])) [] within) ∙ take_at xs (drop (length xs) (get_or bs b [])) (length xs) refl
-
-pub one_more : (bs : List (List ℕ)) (ps : List Place) (u slot : ℕ) (first : Bool) (d : Datagram) (xs : List ℕ) → u < length ps → ((b : ℕ) → sum_by (names b) ps ≤ 1) → (get_or ps u blank).block < length bs → map (entry (laid bs (get_or ps u blank).block xs)) (take (u + 1) (set ps u (placed ps u slot first d (length xs)))) ≡ map (entry bs) (take u ps) ++ arrival slot first d xs ∷ []
-one_more bs ps u slot first d xs lt apart within =
-    let b = (get_or ps u blank).block in
-    let bs' = laid bs b xs in
-    let x = placed ps u slot first d (length xs) in
-    ap (map (entry bs')) (take_more_set ps u x lt) ∙ map_push (entry bs') (take u ps) x
-    ∙ ap (λ t. t ++ entry bs' x ∷ []) (untouched bs b (xs ++ drop (length xs) (get_or bs b [])) (take u ps) (free_front ps u lt apart))
-    ∙ ap (λ t. map (entry bs) (take u ps) ++ arrival slot first d t ∷ []) (laid_bytes bs b xs within)
-
-pub one_more_fits : (bs : List (List ℕ)) (ps : List Place) (u slot : ℕ) (first : Bool) (d : Datagram) (xs : List ℕ) → u < length ps → ((b : ℕ) → sum_by (names b) ps ≤ 1) → (get_or ps u blank).block < length bs → length xs ≤ 1500 → sum_by (unfit bs) (take u ps) ≡ 0 → sum_by (unfit (laid bs (get_or ps u blank).block xs)) (take (u + 1) (set ps u (placed ps u slot first d (length xs)))) ≡ 0
-one_more_fits bs ps u slot first d xs lt apart within small fitting =
-    let b = (get_or ps u blank).block in
-    let bs' = laid bs b xs in
-    let x = placed ps u slot first d (length xs) in
-    let old = untouched_fits bs b (xs ++ drop (length xs) (get_or bs b [])) (take u ps) (free_front ps u lt apart) in
-    let fit : fits bs' x ≡ true = and_from _ _ (eq-eqb (length xs) _ (sym (ap length (laid_bytes bs b xs within)))) (le-leb (length xs) 1500 small) in
-    ap (sum_by (unfit bs')) (take_more_set ps u x lt) ∙ sum_by_push (unfit bs') (take u ps) x ∙ omega (arith, old, fitting, cond-true {A = ℕ} (fits bs' x) 0 1 fit)
-
--- a place that is written keeps its block
-pub same_block : (f : ℕ → ℕ) (ps : List Place) (u : ℕ) (x : Place) → u < length ps → x.block ≡ (get_or ps u blank).block → sum_by (λ p. f p.block) (set ps u x) ≡ sum_by (λ p. f p.block) ps
-same_block f ps u x lt e =
-    let k = ap f e in omega (arith, sum_by-set (λ (p : Place). f p.block) ps u x blank lt)
-
-pub how_many : (bs : List (List ℕ)) (ps : List Place) (u : ℕ) → u ≤ length ps → length (map (entry bs) (take u ps)) ≡ u
-how_many bs ps u le = length-map (take u ps) (entry bs) ∙ length-take-le u ps le
+-- an entry whose block stays
+same_entry : (bs : List (List ℕ)) (b : ℕ) (v : List ℕ) (p : Place) → names_block b p ≡ false → entry (set bs b v) p ≡ entry bs p
+same_entry bs b v p n = grind (arith, common_steps)
 
 -- what holds after one more
-pub record Added (bs bs' : List (List ℕ)) (ps ps' : List Place) (u u' : ℕ) (e : Entry) : Type 0 where
-  pub long : length ps' ≡ length ps
-  pub below : u' ≤ length ps'
-  pub apart : (b : ℕ) → sum_by (names b) ps' ≤ 1
-  pub within : sum_by (outside (length bs')) ps' ≡ 0
-  pub entries : map (entry bs') (take u' ps') ≡ map (entry bs) (take u ps) ++ e ∷ []
-  pub fitting : sum_by (unfit bs') (take u' ps') ≡ 0
+pub record Added (w : Places) (bs : List (List ℕ)) (ps : List Place) (u : ℕ) (e : Entry) : Type 0 where
+  pub apart : (b : ℕ) → count_by (names_block b) ps ≤ 1
+  pub named : All (λ (p : Place). p.block < length bs) ps
+  pub whole : All (HasBytes bs) (take u ps)
+  pub entries : map (entry bs) (take u ps) ≡ entries w ++ e ∷ []
 
-pub added : (bs bs' : List (List ℕ)) (ps ps' : List Place) (u u' b slot : ℕ) (first : Bool) (d : Datagram) (xs : List ℕ) → u < length ps → ((c : ℕ) → sum_by (names c) ps ≤ 1) → sum_by (outside (length bs)) ps ≡ 0 → sum_by (unfit bs) (take u ps) ≡ 0 → length xs ≤ 1500 → b ≡ (get_or ps u blank).block → bs' ≡ laid bs b xs → ps' ≡ set ps u (record { slot = slot; first = first; block = b; kept = record { datagram = d; len = length xs } }) → u' ≡ u + 1 → Added bs bs' ps ps' u u' (arrival slot first d xs)
-added bs bs' ps ps' u u' b slot first d xs lt apart within fitting small eb ebs eps eu =
-    let x = placed ps u slot first d (length xs) in
-    let in_block = within_block (length bs) ps u lt within in
-    rw (ebs, eps, eu, eb)
+pub added : (w : Places) {bs' : List (List ℕ)} {ps' : List Place} {u' b : ℕ} (slot : ℕ) (first : Bool) (d : Datagram) (xs : List ℕ) → length (entries w) < width w → length xs ≤ 1500 → HoldsAt (λ (p : Place). b ≡ p.block) w.records.items.now w.records.used → bs' ≡ set w.blocks.items.now b (xs ++ drop (length xs) (get_or w.blocks.items.now b [])) → ps' ≡ set w.records.items.now w.records.used (record { slot = slot; first = first; block = b; kept = record { datagram = d; len = length xs } }) → u' ≡ w.records.used + 1 → Added w bs' ps' u' (arrival slot first d xs)
+added w {b = b} slot first d xs free small eb ebs eps eu =
+    let bs = w.blocks.items.now in
+    let ps = w.records.items.now in
+    let u = w.records.used in
+    let lt = room w free in
+    let v = xs ++ drop (length xs) (get_or bs b []) in
+    let x : Place = record { slot = slot; first = first; block = b; kept = record { datagram = d; len = length xs } } in
+    let there = in_blocks (length bs) ps u b lt w.named eb in
+    let out = unnamed ps u b x lt w.apart (eb x) in
+    let same : All (λ (p : Place). entry (set bs b v) p ≡ entry bs p) (take u ps) = λ k o l. same_entry bs b v (get_or (take u ps) k o) (out k o l) in
+    let laid : take (length xs) (get_or (set bs b v) b []) ≡ xs = grind (arith, common_steps) in
+    rw (ebs, eps, eu)
     (record {
-      long = length-set ps u x;
-      below = omega (arith, length-set ps u x);
-      apart = λ c. omega (arith, apart c, same_block (λ n. cond (eqb n c) 1 0) ps u x lt refl);
-      within = rw length-set (same_block (λ n. cond (ltb n (length bs)) 0 1) ps u x lt refl ∙ within);
-      entries = one_more bs ps u slot first d xs lt apart in_block;
-      fitting = one_more_fits bs ps u slot first d xs lt apart in_block small fitting;
+      apart = λ c. let s = sum_by-set (λ (p : Place). cond {A = ℕ} (names_block c p) 1 0) ps u x x lt in let h = w.apart c in grind (arith, s, eb x, h);
+      named = subst (λ n. All (λ (p : Place). p.block < n) (set ps u x)) (sym (length-set bs b v)) (All-set (λ (p : Place). p.block < length bs) ps u x there w.named);
+      whole =
+          All-same (HasBytes (set bs b v)) _ _ (take_more_set ps u x lt)
+          (All-push (HasBytes (set bs b v)) (take u ps) x
+          (λ k o l. ((w.whole k o l).0 ∙ ap (λ (e : Entry). length e.bytes) (sym (same k o l)), (w.whole k o l).1)) (sym (ap length laid), small));
+      entries =
+          ap (map (entry (set bs b v))) (take_more_set ps u x lt) ∙ map_push (entry (set bs b v)) (take u ps) x
+          ∙ ap (λ t. t ++ entry (set bs b v) x ∷ []) (map_same (entry (set bs b v)) (entry bs) (take u ps) same)
+          ∙ ap (λ t. map (entry bs) (take u ps) ++ arrival slot first d t ∷ []) laid;
     })
 
 -- ## An attempt goes
 
-pub spent_entries : (bs : List (List ℕ)) (ps ps' : List Place) (slot : ℕ) → ps' ≡ filter (place_other slot) ps → map (entry bs) ps' ≡ without (map (entry bs) ps) slot
-spent_entries bs ps ps' slot e = ap (map (entry bs)) e ∙ sym (kept_map (entry bs) (λ x. not (of_slot slot x)) ps)
-
-pub spent_fits : (bs : List (List ℕ)) (ps ps' : List Place) (slot : ℕ) → ps' ≡ filter (place_other slot) ps → sum_by (unfit bs) ps ≡ 0 → sum_by (unfit bs) ps' ≡ 0
-spent_fits bs ps ps' slot e z = ap (sum_by (unfit bs)) e ∙ sum_kept_none (unfit bs) (place_other slot) ps z
-
--- ## The live places lent
-
-pub lent : (bs bs' : List (List ℕ)) (ps qs : List Place) (u : ℕ) → bs' ≡ bs → qs ≡ take u ps → u ≤ length ps → sum_by (outside (length bs)) ps ≡ 0 → sum_by (unfit bs) (take u ps) ≡ 0 → (sum_by (outside (length bs')) qs ≡ 0) × (sum_by (unfit bs') qs ≡ 0) × (length qs ≡ u)
-lent bs bs' ps qs u eb eq le within fitting =
-    rw (eb, eq) (omega (arith, sum_by-take-le (outside (length bs)) ps u), fitting, length-take-le u ps le)
-
-pub lent_short : (bs : List (List ℕ)) (ps qs : List Place) (u : ℕ) → qs ≡ take u ps → u ≤ length ps → length ps ≤ 128 → sum_by (unfit bs) (take u ps) ≡ 0 → (length qs ≤ 128) × (sum_by oversized qs ≡ 0)
-lent_short bs ps qs u eq le few fitting =
-    rw eq (omega (arith, length-take-le u ps le), none_over bs (take u ps) fitting)
+-- the entries that are left
+pub spent : (w : Places) (ps : List Place) (slot : ℕ) → ps ≡ filter (place_other slot) (held w.records) → map (entry w.blocks.items.now) ps ≡ without (entries w) slot
+spent w ps slot e = ap (map (entry w.blocks.items.now)) e ∙ sym (kept_map (entry w.blocks.items.now) (λ x. not (of_slot slot x)) (held w.records))
 
 -- ## Nothing held yet
 
-cond_le : (b : Bool) → cond b 1 0 ≤ 1
-cond_le true = omega arith
-cond_le false = omega arith
-
 -- the first i places name the blocks below i
-pub record Fresh (ps : List Place) (w i : ℕ) : Type 0 where
-  pub each : (b : ℕ) → sum_by (names b) (take i ps) ≡ cond (ltb b i) 1 0
-  pub within : sum_by (outside w) (take i ps) ≡ 0
+pub record Fresh (ps : List Place) (n i : ℕ) : Type 0 where
+  pub each : (b : ℕ) → count_by (names_block b) (take i ps) ≡ cond (ltb b i) 1 0
+  pub named : All (λ (p : Place). p.block < n) (take i ps)
 
-pub fresh_more : (ps : List Place) (w i : ℕ) (x : Place) → Fresh ps w i → i < length ps → i < w → x.block ≡ i → Fresh (set ps i x) w (i + 1)
-fresh_more ps w i x f lt lw e =
+pub fresh_more : (ps : List Place) (n i : ℕ) (x : Place) → Fresh ps n i → i < length ps → i < n → x.block ≡ i → Fresh (set ps i x) n (i + 1)
+fresh_more ps n i x f lt l e =
     let t = take_more_set ps i x lt in
     record {
-      each = λ b. ap (sum_by (names b)) t ∙ sum_by_push (names b) (take i ps) x ∙ ap (λ n. n + names b x) (f.each b) ∙ step b;
-      within = ap (sum_by (outside w)) t ∙ sum_by_push (outside w) (take i ps) x ∙ omega (arith, f.within, cond-true {A = ℕ} (ltb x.block w) 0 1 (lt-ltb x.block w (omega arith)));
+      each = λ b. let h = f.each b in let s = sum_by_push (λ (p : Place). cond {A = ℕ} (names_block b p) 1 0) (take i ps) x in rw t (grind (arith, nat_tests, h, s));
+      named = rw t (All-push (λ (p : Place). p.block < n) (take i ps) x f.named (omega arith));
     }
-  where
-    step : (b : ℕ) → cond (ltb b i) 1 0 + names b x ≡ cond (ltb b (i + 1)) 1 0
-    step b = rw e (grind (arith, nat_tests))
 
-pub fresh_all : (ps : List Place) (w i : ℕ) → Fresh ps w i → length ps ≤ i → ((b : ℕ) → sum_by (names b) ps ≤ 1) × (sum_by (outside w) ps ≡ 0)
-fresh_all ps w i f le =
-    let t = take_all i ps le in
-    (λ b. omega (arith, ap (sum_by (names b)) t, f.each b, cond_le (ltb b i)), ap (sum_by (outside w)) (sym t) ∙ f.within)
+pub fresh_all : (ps : List Place) (n i : ℕ) → Fresh ps n i → length ps ≤ i → ((b : ℕ) → count_by (names_block b) ps ≤ 1) × All (λ (p : Place). p.block < n) ps
+fresh_all ps n i f le =
+    let t = take_all i ps le in (λ b. let h = f.each b in grind (arith, h, t), rw t at f.named)

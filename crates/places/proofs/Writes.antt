@@ -1,89 +1,60 @@
 -- A loop that writes what passes a test, one after another.
-use Rattle.std.proofs.Common.{◌≡◌, ℕ, ◌+◌, ◌*◌, ◌<◌, ◌≤◌, Bool, true, false, cond, List, [], ◌∷◌, ◌++◌, length, get_or, take, drop, set, filter, sym, refl, ap, ◌∙◌, arith}
-use Rattle.std.proofs.lemmas.List.{append_assoc, append-nil, length-append, length_push, drop-drop, drop_at, take_at, take_all, set_at, drop_more, flat_map_more, map_push, length-map}
+use Rattle.std.proofs.Common.{◌≡◌, ℕ, ◌+◌, ◌*◌, ◌<◌, ◌≤◌, Bool, true, false, List, [], ◌∷◌, ◌++◌, length, get_or, take, drop, set, filter, refl, ap, ◌∙◌, arith}
+use Rattle.std.proofs.lemmas.List.{length-append, length_push, drop-drop, drop_at, take_at, set_at, drop_more}
 use Rattle.std.proofs.lemmas.List.Elements.{filter_more}
-use Rattle.std.proofs.lemmas.Bool.{cond-true, cond-false}
 use Rattle.records.specs.declared.packet.Kept.{Kept}
-use Rattle.places.specs.declared.record.Written.{Written}
-use Rattle.places.specs.Entries.{Entry, kept_of, over, written, all_bytes, all_kept}
+use Rattle.std.proofs.lemmas.Grind.{common_steps}
+use Rattle.places.specs.Entries.{Entry, kept_of, over, all_bytes, all_kept}
 
-pub over_more : {A : Type 0} (xs ys d : List A) → take (length xs) (over xs d) ++ (ys ++ drop (length xs + length ys) (over xs d)) ≡ over (xs ++ ys) d
+-- more, laid behind what is laid over d
+over_more : {A : Type 0} (xs ys d : List A) → take (length xs) (over xs d) ++ (ys ++ drop (length xs + length ys) (over xs d)) ≡ over (xs ++ ys) d
 over_more xs ys d =
-    let a = length xs in
-    let b = length ys in
-    let t = take_at xs (drop a d) a refl in
-    let u : drop (a + b) (xs ++ drop a d) ≡ drop (a + b) d =
-    sym (drop-drop b a (xs ++ drop a d)) ∙ ap (drop b) (drop_at xs (drop a d) a refl) ∙ drop-drop b a d in
-    ap (λ v. v ++ (ys ++ drop (a + b) (over xs d))) t ∙ ap (λ v. xs ++ (ys ++ v)) u
-    ∙ sym (append_assoc xs ys (drop (a + b) d)) ∙ ap (λ n. (xs ++ ys) ++ drop n d) (sym (length-append xs ys))
+    let rest = drop (length xs) d in
+    let t = take_at xs rest (length xs) refl in
+    let u = drop_at xs rest (length xs) refl in
+    let v = drop-drop (length ys) (length xs) (xs ++ rest) in
+    let w = drop-drop (length ys) (length xs) d in
+    grind (arith, common_steps, t, u, v, w)
 
-pub over_one : {A : Type 0} (xs d : List A) (y : A) → length xs < length d → set (over xs d) (length xs) y ≡ over (xs ++ y ∷ []) d
+-- one more
+over_one : {A : Type 0} (xs d : List A) (y : A) → length xs < length d → set (over xs d) (length xs) y ≡ over (xs ++ y ∷ []) d
 over_one xs d y lt =
-    let a = length xs in
-    ap (λ v. set (xs ++ v) a y) (drop_more d a y lt) ∙ set_at xs (get_or d a y) (drop (a + 1) d) y a refl
-    ∙ sym (append_assoc xs (y ∷ []) (drop (a + 1) d)) ∙ ap (λ n. (xs ++ y ∷ []) ++ drop n d) (sym (length_push xs y))
+    let a = drop_more d (length xs) y lt in
+    let b = set_at xs (get_or d (length xs) y) (drop (length xs + 1) d) y (length xs) refl in
+    grind (arith, common_steps, a, b)
 
-pub record Writing (q : Entry → Bool) (es : List Entry) (i : ℕ) (rs₀ rs : List Kept) (bs₀ bs : List ℕ) (count at : ℕ) : Type 0 where
-  pub counted : count ≡ length (filter q (take i es))
-  pub long : at ≡ length (all_bytes (filter q (take i es)))
-  pub records : rs ≡ over (all_kept (filter q (take i es))) rs₀
-  pub bytes : bs ≡ over (all_bytes (filter q (take i es))) bs₀
+-- the first i entries are done, of which those of ms are written over rs₀ and bs₀
+pub record Writing (ms : List Entry) (i : ℕ) (rs₀ rs : List Kept) (bs₀ bs : List ℕ) (count at : ℕ) : Type 0 where
+  pub counted : count ≡ length ms
+  pub long : at ≡ length (all_bytes ms)
+  pub records : rs ≡ over (all_kept ms) rs₀
+  pub bytes : bs ≡ over (all_bytes ms) bs₀
   pub few : count ≤ i
   pub small : at ≤ i * 1500
 
--- x stands at i, and is passed over
-pub writing_no : {q : Entry → Bool} {es : List Entry} {i : ℕ} {rs₀ rs : List Kept} {bs₀ bs : List ℕ} {count at : ℕ} (d x : Entry) → Writing q es i rs₀ rs bs₀ bs count at → i < length es → get_or es i d ≡ x → q x ≡ false → Writing q es (i + 1) rs₀ rs bs₀ bs count at
-writing_no {q} {es} {i} {rs₀} {rs} {bs₀} {bs} d x w lt gx h =
-    let ms = filter q (take i es) in
-    let m : filter q (take (i + 1) es) ≡ ms =
-    filter_more q es i d lt ∙ ap (λ e. ms ++ cond (q e) (e ∷ []) []) gx ∙ ap (λ t. ms ++ t) (cond-false _ _ _ h) ∙ append-nil ms in
-    record {
-      counted = w.counted ∙ ap length (sym m);
-      long = w.long ∙ ap (λ t. length (all_bytes t)) (sym m);
-      records = w.records ∙ ap (λ t. over (all_kept t) rs₀) (sym m);
-      bytes = w.bytes ∙ ap (λ t. over (all_bytes t) bs₀) (sym m);
-      few = omega (arith, w.few);
-      small = omega (arith, w.small);
-    }
+pub kept_no : {X : Type 0} (q : X → Bool) (es : List X) (i : ℕ) (x d : X) → i < length es → get_or es i d ≡ x → q x ≡ false → filter q (take (i + 1) es) ≡ filter q (take i es)
+kept_no q es i x d lt gx h = grind (arith, common_steps, filter_more q es i d lt)
 
--- x stands at i, and is written
-pub writing_yes : {q : Entry → Bool} {es : List Entry} {i : ℕ} {rs₀ rs : List Kept} {bs₀ bs : List ℕ} {count at : ℕ} (d x : Entry) (rs' : List Kept) (bs' : List ℕ) (n : ℕ) → Writing q es i rs₀ rs bs₀ bs count at → i < length es → get_or es i d ≡ x → q x ≡ true → n ≡ length x.bytes → n ≤ 1500 → i < length rs₀ → rs' ≡ set rs count (kept_of x) → bs' ≡ take at bs ++ (x.bytes ++ drop (at + n) bs) → Writing q es (i + 1) rs₀ rs' bs₀ bs' (count + 1) (at + n)
-writing_yes {q} {es} {i} {rs₀} {rs} {bs₀} {bs} {count} {at} d x rs' bs' n w lt gx h en le room er eb =
-    let ms = filter q (take i es) in
+pub kept_yes : {X : Type 0} (q : X → Bool) (es : List X) (i : ℕ) (x d : X) → i < length es → get_or es i d ≡ x → q x ≡ true → filter q (take (i + 1) es) ≡ filter q (take i es) ++ x ∷ []
+kept_yes q es i x d lt gx h = grind (arith, common_steps, filter_more q es i d lt)
+
+-- one is passed over
+pub writing_no : {ms : List Entry} {i : ℕ} {rs₀ rs : List Kept} {bs₀ bs : List ℕ} {count at : ℕ} → Writing ms i rs₀ rs bs₀ bs count at → Writing ms (i + 1) rs₀ rs bs₀ bs count at
+writing_no w = record { counted = w.counted; long = w.long; records = w.records; bytes = w.bytes; few = omega (arith, w.few); small = omega (arith, w.small) }
+
+-- x is written
+pub writing_yes : {ms : List Entry} {i : ℕ} {rs₀ rs rs' : List Kept} {bs₀ bs bs' : List ℕ} {count at count' at' : ℕ} (x : Entry) → Writing ms i rs₀ rs bs₀ bs count at → length x.bytes ≤ 1500 → i < length rs₀ → rs' ≡ set rs count (kept_of x) → count' ≡ count + 1 → bs' ≡ take at bs ++ (x.bytes ++ drop (at + length x.bytes) bs) → at' ≡ at + length x.bytes → Writing (ms ++ x ∷ []) (i + 1) rs₀ rs' bs₀ bs' count' at'
+writing_yes {ms} {i} {rs₀} {rs} {rs'} {bs₀} {bs} {bs'} {count} {at} x w le more er ec eb ea =
     let rd = all_kept ms in
     let bd = all_bytes ms in
-    let m : filter q (take (i + 1) es) ≡ ms ++ x ∷ [] =
-    filter_more q es i d lt ∙ ap (λ e. ms ++ cond (q e) (e ∷ []) []) gx ∙ ap (λ t. ms ++ t) (cond-true _ _ _ h) in
-    let j : all_bytes (ms ++ x ∷ []) ≡ bd ++ x.bytes = sym (flat_map_more (λ (e : Entry). e.bytes) [] ms x) in
-    let k : all_kept (ms ++ x ∷ []) ≡ rd ++ kept_of x ∷ [] = map_push kept_of ms x in
-    let c : count ≡ length rd = w.counted ∙ sym (length-map ms kept_of) in
-    let a : at ≡ length bd = w.long in
+    let j : all_bytes (ms ++ x ∷ []) ≡ bd ++ x.bytes = grind (arith, common_steps) in
+    let k : all_kept (ms ++ x ∷ []) ≡ rd ++ kept_of x ∷ [] = grind (arith, common_steps) in
+    let c : count ≡ length rd = grind (arith, common_steps, w.counted) in
     record {
-      counted = omega (arith, w.counted, ap length m, length_push ms x);
-      long = omega (arith, ap (λ t. length (all_bytes t)) m, ap length j, length-append bd x.bytes);
-      records =
-          er ∙ ap (λ t. set t count (kept_of x)) w.records ∙ ap (λ t. set (over rd rs₀) t (kept_of x)) c
-          ∙ over_one rd rs₀ (kept_of x) (omega (arith, w.few)) ∙ ap (λ t. over t rs₀) (sym k) ∙ ap (λ t. over (all_kept t) rs₀) (sym m);
-      bytes =
-          eb ∙ ap (λ t. take at t ++ (x.bytes ++ drop (at + n) t)) w.bytes
-          ∙ ap (λ t. take t (over bd bs₀) ++ (x.bytes ++ drop (t + n) (over bd bs₀))) a
-          ∙ ap (λ t. take (length bd) (over bd bs₀) ++ (x.bytes ++ drop (length bd + t) (over bd bs₀))) en
-          ∙ over_more bd x.bytes bs₀ ∙ ap (λ t. over t bs₀) (sym j) ∙ ap (λ t. over (all_bytes t) bs₀) (sym m);
+      counted = omega (arith, ec, w.counted, length_push ms x);
+      long = omega (arith, ea, w.long, ap length j, length-append bd x.bytes);
+      records = er ∙ rw (w.records, c, k) (over_one rd rs₀ (kept_of x) (omega (arith, w.few)));
+      bytes = eb ∙ rw (w.bytes, w.long, j) (over_more bd x.bytes bs₀);
       few = omega (arith, w.few);
       small = omega (arith, w.small);
-    }
-
-pub record Wrote (q : Entry → Bool) (es : List Entry) (rs₀ rs : List Kept) (bs₀ bs : List ℕ) (count at : ℕ) : Type 0 where
-  pub result : ◌≡◌ {A = Written} (record { count = count; bytes = at }) (written (filter q es))
-  pub records : rs ≡ over (all_kept (filter q es)) rs₀
-  pub bytes : bs ≡ over (all_bytes (filter q es)) bs₀
-
-pub writing_all : {q : Entry → Bool} {es : List Entry} {i : ℕ} {rs₀ rs : List Kept} {bs₀ bs : List ℕ} {count at : ℕ} → Writing q es i rs₀ rs bs₀ bs count at → length es ≤ i → Wrote q es rs₀ rs bs₀ bs count at
-writing_all {q} {es} {i} {rs₀} {rs} {bs₀} {bs} {count} {at} w le =
-    let m : filter q (take i es) ≡ filter q es = ap (filter q) (take_all i es le) in
-    let mk : ℕ → ℕ → Written = λ n l. record { count = n; bytes = l } in
-    record {
-      result = ap (λ n. mk n at) (w.counted ∙ ap length m) ∙ ap (mk (length (filter q es))) (w.long ∙ ap (λ t. length (all_bytes t)) m);
-      records = w.records ∙ ap (λ t. over (all_kept t) rs₀) m;
-      bytes = w.bytes ∙ ap (λ t. over (all_bytes t) bs₀) m;
     }

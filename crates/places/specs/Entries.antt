@@ -1,11 +1,8 @@
 -- The waiting datagrams, in order of arrival, and what is asked of them.
-use Rattle.std.specs.Prelude.{ℕ, Bool, false, cond, not, ◌&&◌, List, [], ◌∷◌, ◌++◌, map, length, take, drop, Some, None, sum_by, count_by, filter, Option, ◌==◌, nat_le, nat_lt, slice_index_or}
+use Rattle.std.specs.Prelude.{◌≡◌, ◌≤◌, ℕ, Bool, cond, not, ◌&&◌, List, [], ◌∷◌, ◌++◌, map, length, take, drop, Some, None, sum_by, count_by, filter, Option, ◌==◌, slice_index_or}
 use Rattle.std.specs.List.{flat_map}
 use Rattle.records.specs.declared.packet.Datagram.{Datagram}
 use Rattle.records.specs.declared.packet.Kept.{Kept}
-use Rattle.records.specs.declared.packet.Kind.TheVariants.{Initial}
-use Rattle.records.specs.declared.address.SocketAddr.TheVariants.{V4}
-use Rattle.records.specs.Ids.{no_id}
 use Rattle.places.specs.declared.record.Place.{Place}
 use Rattle.places.specs.declared.record.Written.{Written}
 
@@ -82,47 +79,13 @@ entry bs p = record {
   bytes = take p.kept.len (slice_index_or bs p.block []);
 }
 
--- A place for reads past the end; none of its parts matters.
-abbrev pub blank : Place
-blank = record {
-  slot = 0;
-  first = false;
-  block = 0;
-  kept = record {
-    datagram = record {
-      time = 0;
-      addresses = record { remote = V4 (record { ip = []; port = 0 }); local_ip = None };
-      ecn = None;
-      first_len = 0;
-      kind = Initial;
-      dst_cid = no_id;
-      src_cid = no_id;
-      version = 0;
-      token_mark = false;
-    };
-    len = 0;
-  };
-}
+-- Whether a place names the block b.
+abbrev pub names_block : ℕ → Place → Bool
+names_block b p = p.block == b
 
--- 1 at a place that names the block b.
-abbrev pub names : ℕ → Place → ℕ
-names b p = cond (p.block == b) 1 0
-
--- 1 at a place that names none of w blocks.
-abbrev pub outside : ℕ → Place → ℕ
-outside w p = cond (nat_lt p.block w) 0 1
-
--- Whether a place has as many bytes as it says, and at most 1500.
-abbrev pub fits : List (List ℕ) → Place → Bool
-fits bs p = p.kept.len == length (entry bs p).bytes && nat_le p.kept.len 1500
-
--- 1 at a place that does not fit.
-abbrev pub unfit : List (List ℕ) → Place → ℕ
-unfit bs p = cond (fits bs p) 0 1
-
--- 1 at a place with more than 1500 bytes.
-abbrev pub oversized : Place → ℕ
-oversized p = cond (nat_le p.kept.len 1500) 0 1
+-- A place has as many bytes as it says, and at most 1500.
+abbrev pub HasBytes : List (List ℕ) → Place → Type 0
+HasBytes bs p = (p.kept.len ≡ length (entry bs p).bytes) × (p.kept.len ≤ 1500)
 
 -- ## The same of places, without the bytes
 
@@ -138,7 +101,6 @@ place_of slot p = p.slot == slot
 abbrev pub place_other : ℕ → Place → Bool
 place_other slot p = not (place_of slot p)
 
--- The first datagram of the attempt in the slot, among the places.
-abbrev pub place_first : List Place → ℕ → Option Datagram
-place_first [] slot = None
-place_first (p ∷ ps) slot = cond (place_of slot p && p.first) (Some p.kept.datagram) (place_first ps slot)
+-- Whether a place holds the first datagram of the attempt in this slot.
+abbrev pub place_leads : ℕ → Place → Bool
+place_leads slot p = place_of slot p && p.first

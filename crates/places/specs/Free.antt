@@ -1,15 +1,12 @@
 -- The free numbers.
-use Rattle.std.specs.Prelude.{ℕ, zero, suc, ◌+◌, List, [], ◌∷◌, reverse, take, Some, None, Option}
-use Rattle.places.specs.declared.free.FreeList.{FreeList}
+use Rattle.std.specs.Prelude.{ℕ, zero, suc, ◌+◌, List, [], ◌∷◌}
+use Rattle.places.specs.declared.stack.Stack.{Stack}
+use Rattle.places.specs.Stacks.{top_down}
+pub use Rattle.places.specs.Stacks.{top_of}
 
 -- The numbers that are free, the top first.
-abbrev pub free_list : FreeList → List ℕ
-free_list s = reverse (take s.used s.items.now)
-
--- The one on top, if there is one.
-abbrev pub top_of : List ℕ → Option ℕ
-top_of [] = None
-top_of (x ∷ xs) = Some x
+abbrev pub free_list : Stack ℕ → List ℕ
+free_list s = top_down s
 
 -- The n numbers from i on.
 abbrev pub counting : ℕ → ℕ → List ℕ

@@ -1,3 +1,4 @@
 pub mod Entries
+pub mod Stacks
 pub mod Held
 pub mod Free

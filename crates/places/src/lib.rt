@@ -6,4 +6,5 @@ pub mod ops;
 pub mod places;
 pub mod record;
 pub mod scan;
+pub mod stack;
 pub mod write;

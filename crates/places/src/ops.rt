@@ -1,21 +1,18 @@
-ghost use Rattle.std.specs.Prelude.{◌≡◌, ℕ, ◌+◌, ◌-◌, ◌*◌, ◌<◌, ◌≤◌, [], ◌∷◌, ◌++◌, length, get_or, take, drop, sum_by, filter, nat_lt, slice_index_or, slice_set};
-ghost use Rattle.places.specs.declared.record.Place.{Place};
-ghost use Rattle.places.specs.Entries.{blank, names, outside, arrival, total, mine, without, attempts, first_of, written, over, all_bytes, all_kept, place_other};
-ghost use Rattle.places.specs.Held.{entries, width, Sound};
+ghost use Rattle.std.specs.Prelude.{◌≡◌, ℕ, ◌+◌, ◌-◌, ◌*◌, ◌<◌, ◌≤◌, [], ◌∷◌, ◌++◌, length, take, drop, count_by, filter, nat_lt, slice_index_or, slice_set};
+ghost use Rattle.std.specs.List.{All, HoldsAt};
+ghost use Rattle.std.specs.List.Sorted.{IsPermutation};
+ghost use Rattle.places.specs.Entries.{names_block, arrival, total, mine, without, attempts, first_of, written, over, all_bytes, all_kept, place_other};
+ghost use Rattle.places.specs.Held.{entries, width};
+ghost use Rattle.places.specs.Stacks.{held};
 
-use crate::places::{Blocks, Places, Records};
+use crate::places::{Blocks, Places};
 use crate::record::{Place, Written};
 use crate::scan::{attempts_in, bytes_in, compact, find_in, total_in};
+use crate::stack::Stack;
 use crate::write::write_in;
 use records::packet::{Datagram, Kept};
 
 impl<'a> Blocks<'a> {
-    fn all(&self) -> &[[u8; 1500]]
-        ensures { result.now ≡ self.now.items.now }
-    {
-        &*self.items
-    }
-
     // Lays the bytes at the front of a block.
     fn lay(&mut self, b: usize, bytes: &[u8])
         requires b_in_bounds { b < length self.old.items.now }
@@ -26,37 +23,19 @@ impl<'a> Blocks<'a> {
     }
 }
 
-impl<'a> Records<'a> {
-    fn live(&self) -> &[Place]
-        requires { self.now.used ≤ length self.now.items.now }
-        ensures { result.now ≡ take self.now.used self.now.items.now }
-    {
-        let items = &*self.items;
-        &items[0..self.used]
-    }
-
+impl<'a> Stack<'a, Place> {
     // The block that the next free place names.
     fn free_block(&self) -> usize
         requires { self.now.used < length self.now.items.now }
-        ensures { result ≡ (get_or self.now.items.now self.now.used blank).block }
+        ensures { HoldsAt (λ p. result ≡ p.block) self.now.items.now self.now.used }
     {
         self.items[self.used].block
     }
 
-    fn push(&mut self, place: Place)
-        requires { self.old.used < length self.old.items.now }
-        ensures items { self.new.items.now ≡ slice_set self.old.items.now self.old.used place }
-        ensures used { self.new.used ≡ self.old.used + 1 }
-    {
-        self.items[self.used] = place;
-        self.used += 1;
-    }
-
+    // Takes the places of an attempt out.
     fn spend(&mut self, slot: u32)
-        requires { self.old.used ≤ length self.old.items.now }
-        ensures below { self.new.used ≤ self.old.used }
-        ensures front { take self.new.used self.new.items.now ≡ filter (place_other slot) (take self.old.used self.old.items.now) }
-        ensures moved { (f : Place → ℕ) → sum_by f self.new.items.now ≡ sum_by f self.old.items.now }
+        ensures front { held self.new ≡ filter (place_other slot) (held self.old) }
+        ensures moved { IsPermutation self.old.items.now self.new.items.now }
         ensures long { length self.new.items.now ≡ length self.old.items.now }
     {
         let used = self.used;
@@ -67,12 +46,12 @@ impl<'a> Records<'a> {
 // Each place names a block of its own; the rest of a free place is never read.
 fn clear(items: &mut [Place], blocks: usize)
     requires { length items.old ≤ blocks }
-    ensures apart { (b : ℕ) → sum_by (names b) items.new ≤ 1 }
-    ensures within { sum_by (outside blocks) items.new ≡ 0 }
+    ensures apart { (b : ℕ) → count_by (names_block b) items.new ≤ 1 }
+    ensures named { All (λ p. p.block < blocks) items.new }
     ensures long { length items.new ≡ length items.old }
 {
-    for i in 0..items.len() {
-        items[i].block = i;
+    for (i, place) in items.iter_mut().enumerate() {
+        place.block = i;
     }
 }
 
@@ -82,22 +61,20 @@ impl<'a> Places<'a> {
         requires items { w ≤ length items.old }
         requires blocks { w ≤ length blocks.old }
         requires few { w ≤ 128 }
-        ensures sound { Sound result }
         ensures empty { entries result ≡ [] }
         ensures width { width result ≡ w }
     {
-        let items = &mut items[0..w];
-        let blocks = &mut blocks[0..w];
+        let items = &mut items[..w];
+        let blocks = &mut blocks[..w];
         clear(items, blocks.len());
         Places {
-            records: Records { items, used: 0 },
+            records: Stack::empty(items),
             blocks: Blocks { items: blocks },
         }
     }
 
     /// How many datagrams wait.
     pub fn used(&self) -> usize
-        requires { Sound self.now }
         ensures { result ≡ length (entries self.now) }
     {
         self.records.used
@@ -105,48 +82,44 @@ impl<'a> Places<'a> {
 
     /// Whether a place is free.
     pub fn has_room(&self) -> bool
-        requires { Sound self.now }
         ensures { result ≡ nat_lt (length (entries self.now)) (width self.now) }
     {
-        self.records.used < self.records.items.len()
+        self.records.has_room()
     }
 
     /// The bytes of all waiting datagrams, the first of each attempt apart.
+    #[tactic(auto, using(crate::proofs::Views::weights_held, crate::proofs::Views::light_held))]
     pub fn total(&self) -> u64
-        requires { Sound self.now }
         ensures { result ≡ total (entries self.now) }
     {
-        total_in(self.records.live())
+        total_in(self.records.as_slice())
     }
 
     /// The bytes that wait for one attempt, its first datagram apart.
+    #[tactic(auto, using(crate::proofs::Views::weights_of, crate::proofs::Views::light_of))]
     pub fn bytes_of(&self, slot: u32) -> u64
-        requires { Sound self.now }
         ensures { result ≡ total (mine (entries self.now) slot) }
     {
-        bytes_in(self.records.live(), slot)
+        bytes_in(self.records.as_slice(), slot)
     }
 
     /// How many attempts wait.
     pub fn attempts(&self) -> usize
-        requires { Sound self.now }
         ensures { result ≡ attempts (entries self.now) }
     {
-        attempts_in(self.records.live())
+        attempts_in(self.records.as_slice())
     }
 
     /// The first datagram of the attempt in a slot.
+    #[tactic(auto, using(crate::proofs::Views::first_held))]
     pub fn find(&self, slot: u32) -> Option<Datagram>
-        requires { Sound self.now }
         ensures { result ≡ first_of (entries self.now) slot }
     {
-        find_in(self.records.live(), slot)
+        find_in(self.records.as_slice(), slot)
     }
 
     /// Takes every datagram of an attempt out; the others stay, in their order.
     pub fn spend(&mut self, slot: u32)
-        requires { Sound self.old }
-        ensures sound { Sound self.new }
         ensures entries { entries self.new ≡ without (entries self.old) slot }
         ensures width { width self.new ≡ width self.old }
     {
@@ -155,10 +128,8 @@ impl<'a> Places<'a> {
 
     /// Keeps a datagram of at most 1500 bytes, behind all others, where a place is free.
     pub fn keep(&mut self, slot: u32, first: bool, datagram: Datagram, bytes: &[u8])
-        requires sound { Sound self.old }
         requires short { length bytes.now ≤ 1500 }
         requires room { length (entries self.old) < width self.old }
-        ensures sound { Sound self.new }
         ensures entries { entries self.new ≡ entries self.old ++ (arrival slot first datagram bytes.now ∷ []) }
         ensures width { width self.new ≡ width self.old }
     {
@@ -178,13 +149,18 @@ impl<'a> Places<'a> {
 
     /// Writes the records of an attempt's datagrams in order of arrival, and their bytes end to end.
     pub fn write(&self, slot: u32, records: &mut [Kept], bytes: &mut [u8]) -> Written
-        requires sound { Sound self.now }
         requires room { length (entries self.now) ≤ length records.old }
         requires wide { length (entries self.now) * 1500 ≤ length bytes.old }
         ensures written { result ≡ written (mine (entries self.now) slot) }
         ensures records { records.new ≡ over (all_kept (mine (entries self.now) slot)) records.old }
         ensures bytes { bytes.new ≡ over (all_bytes (mine (entries self.now) slot)) bytes.old }
     {
-        write_in(self.records.live(), self.blocks.all(), slot, records, bytes)
+        write_in(
+            self.records.as_slice(),
+            &*self.blocks.items,
+            slot,
+            records,
+            bytes,
+        )
     }
 }

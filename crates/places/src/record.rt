@@ -1,5 +1,5 @@
 ghost use Rattle.std.specs.Prelude.{◌≡◌};
-ghost use Rattle.places.specs.Entries.{place_weight};
+ghost use Rattle.places.specs.Entries.{place_of, place_weight};
 
 use records::packet::Kept;
 
@@ -10,11 +10,19 @@ pub struct Place {
     pub slot: u32,
     /// Whether it is the one that opened the attempt.
     pub first: bool,
+    // A number and no borrow: places and blocks are both lent memory.
     pub block: usize,
     pub kept: Kept,
 }
 
 impl Place {
+    /// Whether it is of the attempt in a slot.
+    pub(crate) fn is_of(&self, slot: u32) -> bool
+        ensures { result ≡ place_of slot self.now }
+    {
+        self.slot == slot
+    }
+
     /// Its bytes that count against the limits: those of a first datagram do not.
     pub fn weight(&self) -> u64
         ensures { result ≡ place_weight self.now }

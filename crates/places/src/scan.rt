@@ -1,61 +1,47 @@
-ghost use Rattle.std.specs.Prelude.{◌≡◌, ℕ, ◌+◌, ◌-◌, ◌<◌, ◌≤◌, length, take, sum_by, count_by, filter};
-ghost use Rattle.places.specs.declared.record.Place.{Place};
-ghost use Rattle.places.specs.Entries.{oversized, place_weight, place_of, place_other, place_first};
+ghost use Rattle.std.specs.Prelude.{◌≡◌, ℕ, ◌+◌, ◌-◌, ◌<◌, ◌≤◌, ◌^◌, length, take, sum_by, count_by, filter};
+ghost use Rattle.std.specs.List.{find};
+ghost use Rattle.std.specs.Option.{option_map};
+ghost use Rattle.std.specs.List.Sorted.{IsPermutation};
+ghost use Rattle.places.specs.Entries.{place_weight, place_of, place_other, place_leads};
 
 use crate::record::Place;
 use records::packet::Datagram;
 
 /// The bytes of the places that hold no first datagram.
 pub fn total_in(items: &[Place]) -> u64
-    requires few { length items.now ≤ 128 }
-    requires short { sum_by oversized items.now ≡ 0 }
+    requires { sum_by place_weight items.now < 2 ^ 64 }
     ensures { result ≡ sum_by place_weight items.now }
 {
-    let mut sum = 0;
-    for p in items {
-        sum += p.weight();
-    }
-    sum
+    items.iter().map(Place::weight).sum()
 }
 
 /// The same of one attempt.
 pub fn bytes_in(items: &[Place], slot: u32) -> u64
-    requires few { length items.now ≤ 128 }
-    requires short { sum_by oversized items.now ≡ 0 }
+    requires { sum_by place_weight (filter (place_of slot) items.now) < 2 ^ 64 }
     ensures { result ≡ sum_by place_weight (filter (place_of slot) items.now) }
 {
-    let mut sum = 0;
-    for p in items {
-        if p.slot == slot {
-            sum += p.weight();
-        }
-    }
-    sum
+    items
+        .iter()
+        .filter(|p| p.is_of(slot))
+        .map(Place::weight)
+        .sum()
 }
 
 /// How many places hold a first datagram.
 pub fn attempts_in(items: &[Place]) -> usize
     ensures { result ≡ count_by (λ p. p.first) items.now }
 {
-    let mut n = 0;
-    for p in items {
-        if p.first {
-            n += 1;
-        }
-    }
-    n
+    items.iter().filter(|p| p.first).count()
 }
 
 /// The first datagram of the attempt in a slot.
 pub fn find_in(items: &[Place], slot: u32) -> Option<Datagram>
-    ensures { result ≡ place_first items.now slot }
+    ensures { result ≡ option_map (λ p. p.kept.datagram) (find (place_leads slot) items.now) }
 {
-    for p in items {
-        if p.slot == slot && p.first {
-            return Some(p.kept.datagram);
-        }
-    }
-    None
+    items
+        .iter()
+        .find(|p| p.is_of(slot) && p.first)
+        .map(|p| p.kept.datagram)
 }
 
 /// Moves the places of other attempts to the front, in their order, and says how many there are.
@@ -63,12 +49,13 @@ pub fn compact(items: &mut [Place], used: usize, slot: u32) -> usize
     requires { used ≤ length items.old }
     ensures below { result ≤ used }
     ensures front { take result items.new ≡ filter (place_other slot) (take used items.old) }
-    ensures moved { (f : Place → ℕ) → sum_by f items.new ≡ sum_by f items.old }
+    ensures moved { IsPermutation items.old items.new }
     ensures long { length items.new ≡ length items.old }
 {
     let mut k = 0;
+    // By index: no method of slices moves what passes a test to the front, in order and without a buffer.
     for i in 0..used {
-        if items[i].slot != slot {
+        if !items[i].is_of(slot) {
             // A swap keeps every block named by one place.
             items.swap(k, i);
             k += 1;

@@ -27,7 +27,7 @@ impl<'a> Endpoint<'a> {
         requires absent { (state_of self.old).initial datagram.now.dst_cid ≡ None }
         ensures { (u : Supplied) (out : List ℕ) (k : CloseRecord) → Answered self.old self.new u u out out k k (datagram_of datagram.now bytes.now) result (gives (opened (next_free (state_of self.old).free_slots) opening) (with_opened (state_of self.old) (next_free (state_of self.old).free_slots) (datagram_of datagram.now bytes.now))) }
     {
-        let slot = match self.slots.top() {
+        let slot = match self.slots.pop() {
             Some(slot) => slot,
             None => unreachable(),
         };
@@ -37,7 +37,6 @@ impl<'a> Endpoint<'a> {
             datagram.dst_cid,
             InitialEvent::Arrival(slot),
         );
-        self.slots.drop_top();
         Handled::Opened(Attempt::new(self.number, slot), opening)
     }
 }

@@ -1,35 +1,10 @@
-use Rattle.std.proofs.Common.{◌<◌, map, length, set, ap, arith}
+use Rattle.std.proofs.Common.{◌<◌, map, length, set, sym, ap, subst, ◌∙◌, arith}
 use lib.ListN.{length-map}
-use Rattle.std.proofs.lemmas.Bool.{eq-eqb, ne_eqb}
-use Rattle.places.specs.Entries.{entry, unfit}
-use Rattle.places.proofs.Views.{block_at, entry_at, none_at, fits_small, fits_size}
-use Rattle.places.proofs.Writes.{writing_no, writing_yes, writing_all}
+use Rattle.places.specs.Entries.{entry, HasBytes}
+use Rattle.places.proofs.Views.{entry_at}
+use Rattle.places.proofs.Writes.{kept_no, kept_yes, writing_no, writing_yes}
 use Rattle.places.proofs.write.write_in.Goals as goal
-use Rattle.places.proofs.write.write_in.Goals.{then-p-slot, else-p-slot}
-
-pub copy_front-requires : goal.copy_front-requires
-copy_front-requires c =
-    let ps = c.args.items.now in
-    let bs = c.args.blocks.now in
-    let i = c.loop-p.p-index in
-    let p = c.p-item.result in
-    let lt : i < length ps = omega arith in
-    let s = fits_small bs p (none_at (unfit bs) ps i p lt c.p-item.is c.requires.fitting) in
-    record {
-      b_in_bounds = block_at (length bs) ps i p lt c.p-item.is c.requires.within;
-      n_bound = s;
-      n_in_bounds = omega (arith, c.loop-p.invariant.small, c.requires.wide, c.loop-p.auto.bytes);
-    }
-
-pub overflow_add-at : goal.overflow_add-at
-overflow_add-at c =
-    let ps = c.args.items.now in
-    let bs = c.args.blocks.now in
-    let i = c.loop-p.p-index in
-    let p = c.p-item.result in
-    let lt : i < length ps = omega arith in
-    let s = fits_small bs p (none_at (unfit bs) ps i p lt c.p-item.is c.requires.fitting) in
-    omega (arith, c.loop-p.invariant.small, c.requires.wide, c.loop-p.auto.bytes)
+use Rattle.places.proofs.write.write_in.Goals.{then-is_of, else-is_of}
 
 pub loop-p-preserved : goal.loop-p-preserved
 loop-p-preserved c =
@@ -40,19 +15,18 @@ loop-p-preserved c =
     let x = entry bs p in
     let lt : i < length ps = omega arith in
     let le : i < length (map (entry bs) ps) = rw length-map lt in
-    let u = none_at (unfit bs) ps i p lt c.p-item.is c.requires.fitting in
+    let h : HasBytes bs p = subst (HasBytes bs) (sym c.p-item.is) (c.requires.whole i p lt) in
     let at = entry_at bs ps i p lt c.p-item.is in
-    elim c.if-p-slot.branch [
-      | then-p-slot w ↦
-          let k = ap (λ n. set c.loop-p.records c.loop-p.count (record { datagram = p.kept.datagram; len = n })) (fits_size bs p u) in
-          rw (w.records-is, w.bytes-is, w.count-is, w.at-is)
-          (writing_yes x x _ _ _ c.loop-p.invariant le at (eq-eqb _ _ w.if-p-slot.true) (fits_size bs p u) (fits_small bs p u) (omega (arith, c.requires.room)) k w.copy_front.ensures)
-      | else-p-slot w ↦
-          rw (w.records-is, w.bytes-is, w.count-is, w.at-is)
-          (writing_no x x c.loop-p.invariant le at (ne_eqb _ _ w.if-p-slot.false))
+    let v = c.loop-p.invariant in
+    elim c.if-is_of.branch [
+      | then-is_of w ↦
+          let e = w.extend_from_slice.ensures in
+          let k = w.push.ensures in
+          let r = ap (λ n. set c.loop-p.kept.items.now c.loop-p.kept.used (record { datagram = p.kept.datagram; len = n })) h.0 in
+          rw (w.kept-is, w.laid-is, kept_yes _ _ i x x le at (sym c.is_of.ensures ∙ w.if-is_of.true)) (
+            writing_yes x v.0 (omega (arith, h.0, h.1)) (omega (arith, c.requires.room, ap length c.empty-kept.ensures.items)) (k.items ∙ r) k.used e.items e.used,
+            k.same ∙ v.1,
+            e.same ∙ v.2,
+          )
+      | else-is_of w ↦ rw (w.kept-is, w.laid-is, kept_no _ _ i x x le at (sym c.is_of.ensures ∙ w.if-is_of.false)) (writing_no v.0, v.1, v.2)
     ]
-
-pub returns : goal.returns
-returns c =
-    let a = writing_all c.loop-p.invariant (rw length-map (omega arith)) in
-    record { written = a.result; records = a.records; bytes = a.bytes }

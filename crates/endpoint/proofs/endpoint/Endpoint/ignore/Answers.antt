@@ -54,7 +54,6 @@ invariant_of-self c =
     let t = leaves e c.set_initial.new.initial c.args.attempt x slot r b c.set_initial.ensures.changed in
     record {
       few_incoming = e.few_incoming;
-      sound = λ _. c.spend.ensures.sound;
       initial_reached = λ _. c.set_initial.ensures.sound.0;
       ids_reached = e.ids_reached;
       pairs_reached = e.pairs_reached;
@@ -66,7 +65,7 @@ invariant_of-self c =
       proper = λ _. ap proper c.spend.ensures.entries ∙ spends_proper es slot (e.proper r);
       shared = λ _. omega (arith, c.push.ensures.used, ap length m, length_without slot ws, e.shared r, e.once r slot, held);
       few_entries = λ _. omega (arith, t.count, ap entered m, entered_spent slot ws w b.there (once_held free ws slot (e.once r)), e.few_entries r);
-      once = λ _. once_as (slot ∷ free) _ vs ws' c.push.ensures.free m (once_spent free ws slot (e.once r) held);
+      once = λ _. once_as (slot ∷ free) _ vs ws' c.push.ensures.held m (once_spent free ws slot (e.once r) held);
       named = λ _. named_as g f' vs ws' t.maps m (named_spent f ws slot d None (e.named r) b.leads);
       pointed = λ _. pointed_as g f' vs ws' t.maps m (pointed_spent f ws slot d None (e.pointed r) none b.leads refl);
       no_empty = λ _. no_empty_tells f' (no_empty_as g f' t.maps (no_empty_put f d.dst None none));
@@ -100,7 +99,7 @@ returns-in-Some c =
             back = tt;
             state =
                 same_state s (ap groups c.spend.ensures.entries ∙ spends (entries e.places) slot ∙ ap (without s.waiting) (sym b.slot_is))
-                (c.push.ensures.free ∙ ap (λ n. n ∷ s.free_slots) (sym b.slot_is)) t.maps;
+                (c.push.ensures.held ∙ ap (λ n. n ∷ s.free_slots) (sym b.slot_is)) t.maps;
             frame = record { ready = refl; settings = refl; number = refl; width = c.spend.ensures.width };
           });
     }

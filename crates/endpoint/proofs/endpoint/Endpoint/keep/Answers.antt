@@ -26,7 +26,6 @@ keep-requires c =
     let r = c.requires.ready in
     let es = entries e.places in
     record {
-      sound = e.sound r;
       short = c.requires.short;
       room = omega (arith, leb-false _ _ (sym c.if-no_place.ensures), places es (e.proper r));
     }
@@ -52,7 +51,6 @@ invariant_of-self c =
     let fewer = ap entered n.groups_are ∙ entered_kept slot d ws in
     record {
       few_incoming = e.few_incoming;
-      sound = λ _. c.keep.ensures.sound;
       initial_reached = e.initial_reached;
       ids_reached = e.ids_reached;
       pairs_reached = e.pairs_reached;

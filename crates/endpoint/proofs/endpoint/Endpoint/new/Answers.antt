@@ -23,7 +23,6 @@ invariant_of-result c =
     let ef : f ≡ none = ix.ensures.fresh.initial in
     record {
       few_incoming = (λ r. (fit r).few);
-      sound = (λ r. pl.ensures.sound);
       initial_reached = (λ r. ix.ensures.fresh.initial_reached);
       ids_reached = (λ r. ix.ensures.fresh.ids_reached);
       pairs_reached = (λ r. ix.ensures.fresh.pairs_reached);

@@ -25,13 +25,13 @@ unreachable-requires c =
     let e = c.args.self.now in
     let r = c.requires.ready in
     let long = free_length e.slots.items.now e.slots.used (omega (arith, e.all_slots r, e.shared r)) in
-    omega (arith, c.requires.few, e.shared r, long, none_free (free_list e.slots) c.in-None.ensures)
+    omega (arith, c.requires.few, e.shared r, long, none_free (free_list e.slots) c.in-None.ensures.top)
 
 pub keep-requires : goal.keep-requires
 keep-requires c =
     let e = c.args.self.now in
     let r = c.requires.ready in
-    record { sound = e.sound r; short = c.requires.short; room = omega (arith, c.requires.room, places (entries e.places) (e.proper r)) }
+    record { short = c.requires.short; room = omega (arith, c.requires.room, places (entries e.places) (e.proper r)) }
 
 pub set_initial-requires : goal.set_initial-requires
 set_initial-requires c =
@@ -54,13 +54,12 @@ invariant_of-self c =
     let f = initial_of e.index in
     let g = put f x (Some (to_attempt slot)) in
     let f' = initial_in c.set_initial.new.initial in
-    let top = top_cons free slot c.in-Some.ensures in
+    let top = top_cons free slot c.in-Some.ensures.top in
     let un = top_unheld free ws slot top (e.once r) in
     let n = arrives es (entries c.keep.new.self) a c.keep.ensures.entries (e.proper r) (eq-eqb (holding slot ws) 0 un) in
     let t = enters e.index.connection_ids_initial c.set_initial.new.initial x slot c.set_initial.ensures.changed c.requires.absent in
     record {
       few_incoming = e.few_incoming;
-      sound = λ _. c.keep.ensures.sound;
       initial_reached = λ _. c.set_initial.ensures.sound.0;
       ids_reached = e.ids_reached;
       pairs_reached = e.pairs_reached;
@@ -68,11 +67,11 @@ invariant_of-self c =
       counted = λ _. c.set_initial.ensures.sound.1;
       roomy = λ _. omega (arith, c.set_initial.ensures.long, e.roomy r);
       all_connections = e.all_connections;
-      all_slots = λ _. c.drop_top.ensures.long ∙ e.all_slots r;
+      all_slots = λ _. ap length c.pop.ensures.items ∙ e.all_slots r;
       proper = λ _. n.proper_is;
-      shared = λ _. omega (arith, c.drop_top.ensures.used, ap length n.groups_are, e.shared r, c.requires.few);
+      shared = λ _. omega (arith, c.pop.ensures.used, ap length n.groups_are, e.shared r, c.requires.few);
       few_entries = λ _. omega (arith, t.count, ap entered n.groups_are, e.few_entries r);
-      once = λ _. once_as (drop 1 free) _ (w ∷ ws) ws' c.drop_top.ensures.free n.groups_are (once_opened free ws w top (e.once r));
+      once = λ _. once_as (drop 1 free) _ (w ∷ ws) ws' c.pop.ensures.held n.groups_are (once_opened free ws w top (e.once r));
       named = λ _. named_as g f' (w ∷ ws) ws' t.maps n.groups_are (named_opened f ws w (e.named r) c.requires.absent);
       pointed = λ _. pointed_as g f' (w ∷ ws) ws' t.maps n.groups_are (pointed_opened f ws w (e.pointed r) (lead_none slot ws un));
       no_empty = λ _. no_empty_tells f' (no_empty_as g f' t.maps (no_empty_put f x (Some (to_attempt slot)) (no_empty_told f (e.no_empty r))));
@@ -86,12 +85,12 @@ returns c u out k =
     let x = c.args.datagram.now.dst_cid in
     let a = arrival slot true c.args.datagram.now c.args.bytes.now in
     let t = enters e.index.connection_ids_initial c.set_initial.new.initial x slot c.set_initial.ensures.changed c.requires.absent in
-    let next : next_free s.free_slots ≡ slot = ap (λ l. get_or l 0 0) (top_cons s.free_slots slot c.in-Some.ensures) in
+    let next : next_free s.free_slots ≡ slot = ap (λ l. get_or l 0 0) (top_cons s.free_slots slot c.in-Some.ensures.top) in
     answered_as (ap (λ n. gives (opened_answer n c.args.opening) (with_opened s n (sent a))) next)
     (record {
       answer = ap (λ (y : Attempt). opened_answer y.slot c.args.opening) c.new.ensures;
       number = ap (λ (y : Attempt). y.number) c.new.ensures;
-      state = same_state s (ap groups c.keep.ensures.entries ∙ adds (entries e.places) a) c.drop_top.ensures.free t.maps;
+      state = same_state s (ap groups c.keep.ensures.entries ∙ adds (entries e.places) a) c.pop.ensures.held t.maps;
       drawn = sym (spent_none u);
       output = refl;
       close = refl;
