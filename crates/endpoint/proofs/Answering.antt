@@ -6,8 +6,7 @@ use Rattle.records.specs.declared.cause.Cause.{Cause}
 use Rattle.records.specs.declared.packet.Close.{Close}
 use Rattle.records.specs.Causes.{cause_number}
 use Rattle.records.specs.Received.{Datagram, size, is_initial}
-use Rattle.supply.specs.declared.answers.Opens.{Opens}
-use Rattle.supply.specs.Meaning.{Supplied, spent}
+use Rattle.supply.specs.Meaning.{Opens, Supplied, spent}
 use Rattle.supply.proofs.Spending.{spent_none}
 use Rattle.model.specs.Records.{refused, delivered, closing, reset}
 use Rattle.model.specs.Endpoint.{State, Config, Supply, Target, row, first_cause, saturated, no_place, route}

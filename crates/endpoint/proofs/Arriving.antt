@@ -4,7 +4,7 @@ use mathlib.Core.Path.{fun_ext}
 use Rattle.std.specs.Option.{option_map}
 use Rattle.std.proofs.lemmas.List.Sums.{sum_by-cons}
 use Rattle.std.proofs.lemmas.Bool.{cond-true, cond-false, cases_Bool, and_from}
-use Rattle.table.specs.declared.table.Table.{Table}
+use Rattle.table.specs.declared.slot.Slot.{Slot}
 use Rattle.table.specs.Slots.{lookup}
 use Rattle.records.specs.declared.shared.ConnectionId.{ConnectionId}
 use Rattle.records.specs.declared.packet.Close.{Close}
@@ -33,13 +33,13 @@ use Rattle.endpoint.specs.Answers.{Answered}
 -- ## The Initial entries
 
 -- the entries of a table
-abbrev pub initial_in : Table ConnectionId RouteDatagramTo → ConnectionId → Option Target
-initial_in t x = option_map target_of (lookup same_id t.slots.now x)
+abbrev pub initial_in : List (Slot ConnectionId RouteDatagramTo) → ConnectionId → Option Target
+initial_in t x = option_map target_of (lookup same_id t x)
 
 -- the entries after an event
-pub initial_changed : (s t : Table ConnectionId RouteDatagramTo) (x : ConnectionId) (o : Option RouteDatagramTo) → Changed s t x o → initial_in t ≡ put (initial_in s) x (option_map target_of o)
-initial_changed s t x o h =
-    let l = lookup same_id s.slots.now in
+pub initial_changed : (s t : List (Slot ConnectionId RouteDatagramTo)) (m n : ℕ) (x : ConnectionId) (o : Option RouteDatagramTo) → Changed s t m n x o → initial_in t ≡ put (initial_in s) x (option_map target_of o)
+initial_changed s t m n x o h =
+    let l = lookup same_id s in
     fun_ext (λ q. ap (option_map target_of) (h.maps q) ∙ push (empty x) (same_id x q) (l q))
   where
     push : (a b : Bool) (m : Option RouteDatagramTo) → option_map target_of (cond a m (cond b o m)) ≡ cond a (option_map target_of m) (cond b (option_map target_of o) (option_map target_of m))
@@ -53,36 +53,35 @@ mapped_none f None h = refl
 mapped_none f (Some a) h = let z : ◌≡◌ {A = ℕ} 0 1 = cc in absurd (omega arith)
 
 -- the table t is s with the entry of a new attempt under x, unless x is empty
-pub record Entered (s t : Table ConnectionId RouteDatagramTo) (x : ConnectionId) (slot : ℕ) : Type 0 where
+pub record Entered (s t : List (Slot ConnectionId RouteDatagramTo)) (m n : ℕ) (x : ConnectionId) (slot : ℕ) : Type 0 where
   pub maps : initial_in t ≡ put (initial_in s) x (Some (to_attempt slot))
-  pub count : t.count ≡ s.count + cond (empty x) 0 1
+  pub count : n ≡ m + cond (empty x) 0 1
 
 -- an arrival enters its attempt where there is no entry
-pub enters : (s t : Table ConnectionId RouteDatagramTo) (x : ConnectionId) (slot : ℕ) → Changed s t x (entry_after (lookup same_id s.slots.now x) (Arrival slot)) → initial_in s x ≡ None → Entered s t x slot
-enters s t x slot h n =
-    let l = lookup same_id s.slots.now x in
-    let z : l ≡ None = mapped_none target_of l n in
-    let o : entry_after l (Arrival slot) ≡ Some (Incoming slot) = ap (λ m. entry_after m (Arrival slot)) z in
+pub enters : (s t : List (Slot ConnectionId RouteDatagramTo)) (m n : ℕ) (x : ConnectionId) (slot : ℕ) → Changed s t m n x (entry_after (lookup same_id s x) (Arrival slot)) → initial_in s x ≡ None → Entered s t m n x slot
+enters s t m n x slot h gone =
+    let l = lookup same_id s x in
+    let z : l ≡ None = mapped_none target_of l gone in
+    let o : entry_after l (Arrival slot) ≡ Some (Incoming slot) = ap (λ e. entry_after e (Arrival slot)) z in
     record {
-      maps = initial_changed s t x (entry_after l (Arrival slot)) h ∙ ap (λ m. put (initial_in s) x (option_map target_of m)) o;
+      maps = initial_changed s t m n x (entry_after l (Arrival slot)) h ∙ ap (λ e. put (initial_in s) x (option_map target_of e)) o;
       count = elim (cases_Bool (empty x)) [
         | inl y ↦ omega (arith, h.kept y, cond-true {A = ℕ} (empty x) 0 1 y)
-        | inr m ↦ omega (arith, h.count m, ap present z, ap present o, cond-false {A = ℕ} (empty x) 0 1 m)
+        | inr f ↦ omega (arith, h.count f, ap present z, ap present o, cond-false {A = ℕ} (empty x) 0 1 f)
       ];
     }
 
 -- ## Room for an entry
 
--- one connection counts once at most
-entered_one : (a b : Bool) → cond a (cond b 0 1) 0 ≤ 1
-entered_one true true = omega arith
-entered_one true false = omega arith
-entered_one false b = omega arith
-
 -- each connection has one entry at most
-pub entered_by_few : (ms : List ConnectionMeta) → sum_by entered_by ms ≤ length ms
+pub entered_by_few : (ms : List (Option ConnectionMeta)) → sum_by entered_by ms ≤ length ms
 entered_by_few [] = omega arith
-entered_by_few (m ∷ ms) = omega (arith, sum_by-cons entered_by m ms, entered_by_few ms, entered_one m.live (empty m.init_cid))
+entered_by_few (None ∷ ms) = omega (arith, sum_by-cons entered_by None ms, entered_by_few ms)
+entered_by_few (Some m ∷ ms) = omega (arith, sum_by-cons entered_by (Some m) ms, entered_by_few ms, one (empty m.init_cid))
+  where
+    one : (b : Bool) → cond b 0 1 ≤ 1
+    one true = omega arith
+    one false = omega arith
 
 -- the table of entries has room for one more
 pub initial_room : (e : Endpoint) → e.ready ≡ true → e.index.connection_ids_initial.count < length e.index.connection_ids_initial.slots.now

@@ -1,8 +1,8 @@
 -- What is left where a waiting attempt goes.
-use Rattle.std.proofs.Common.{◌≡◌, ℕ, ◌+◌, Bool, true, false, cond, eqb, Some, None, Option, Result, sym, refl, ap, ◌∙◌, subst, inl, inr, arith}
+use Rattle.std.proofs.Common.{◌≡◌, ℕ, ◌+◌, Bool, true, false, cond, eqb, List, Some, None, Option, Result, sym, refl, ap, ◌∙◌, subst, inl, inr, arith}
 use Rattle.std.specs.Option.{option_map}
 use Rattle.std.proofs.lemmas.Bool.{cond-true, cond-false, cases_Bool, both_ways}
-use Rattle.table.specs.declared.table.Table.{Table}
+use Rattle.table.specs.declared.slot.Slot.{Slot}
 use Rattle.table.specs.Slots.{lookup}
 use Rattle.records.specs.declared.shared.ConnectionId.{ConnectionId}
 use Rattle.records.specs.declared.packet.Datagram.{Datagram}
@@ -86,9 +86,9 @@ brings e a d slot r same h = from (waits e a) refl (h ∙ brought_first e a r)
 -- ## Its entry
 
 -- the table t is s without the entry under x
-pub record Left (s t : Table ConnectionId RouteDatagramTo) (x : ConnectionId) : Type 0 where
+pub record Left (s t : List (Slot ConnectionId RouteDatagramTo)) (m n : ℕ) (x : ConnectionId) : Type 0 where
   pub maps : initial_in t ≡ put (initial_in s) x None
-  pub count : t.count + cond (empty x) 0 1 ≡ s.count
+  pub count : n + cond (empty x) 0 1 ≡ m
 
 -- a failed attempt has no entry
 failed_none : (o : Option RouteDatagramTo) → entry_after o Failed ≡ None
@@ -102,21 +102,24 @@ attempt_there slot None h = absurd (both_ways false refl h)
 attempt_there slot (Some t) h = refl
 
 -- an attempt that fails takes its entry along
-pub leaves : (e : Endpoint) (t : Table ConnectionId RouteDatagramTo) (a : Attempt) (x : ConnectionId) (slot : ℕ) → e.ready ≡ true → (b : Brings e a x slot) → Changed e.index.connection_ids_initial t x (entry_after (lookup same_id e.index.connection_ids_initial.slots.now x) Failed) → Left e.index.connection_ids_initial t b.attempt.first.dst
-leaves e t a x slot r b h =
-    let s = e.index.connection_ids_initial in
-    let l = lookup same_id s.slots.now in
+pub leaves : (e : Endpoint) (t : List (Slot ConnectionId RouteDatagramTo)) (n : ℕ) (a : Attempt) (x : ConnectionId) (slot : ℕ) → e.ready ≡ true → (b : Brings e a x slot)
+    → Changed e.index.connection_ids_initial.slots.now t e.index.connection_ids_initial.count n x (entry_after (lookup same_id e.index.connection_ids_initial.slots.now x) Failed)
+    → Left e.index.connection_ids_initial.slots.now t e.index.connection_ids_initial.count n b.attempt.first.dst
+leaves e t n a x slot r b h =
+    let s = e.index.connection_ids_initial.slots.now in
+    let m = e.index.connection_ids_initial.count in
+    let l = lookup same_id s in
     let d = b.attempt.first in
     let y = d.dst in
-    let g : Changed s t y (entry_after (l y) Failed) = subst (λ k. Changed s t k (entry_after (l k) Failed)) b.dst h in
+    let g : Changed s t m n y (entry_after (l y) Failed) = subst (λ k. Changed s t m n k (entry_after (l k) Failed)) b.dst h in
     let z = failed_none (l y) in
     record {
-      maps = initial_changed s t y (entry_after (l y) Failed) g ∙ ap (λ m. put (initial_in s) y (option_map target_of m)) z;
+      maps = initial_changed s t m n y (entry_after (l y) Failed) g ∙ ap (λ o. put (initial_in s) y (option_map target_of o)) z;
       count = elim (cases_Bool (empty y)) [
         | inl p ↦ omega (arith, g.kept p, cond-true {A = ℕ} (empty y) 0 1 p)
-        | inr n ↦
-            let p = attempt_there slot (l y) (named_entry (initial_of e.index) (groups (entries e.places)) slot d (e.named r) b.leads n) in
-            omega (arith, g.count n, p, ap present z, cond-false {A = ℕ} (empty y) 0 1 n)
+        | inr f ↦
+            let p = attempt_there slot (l y) (named_entry (initial_of e.index) (groups (entries e.places)) slot d (e.named r) b.leads f) in
+            omega (arith, g.count f, p, ap present z, cond-false {A = ℕ} (empty y) 0 1 f)
       ];
     }
 

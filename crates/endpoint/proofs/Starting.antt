@@ -1,13 +1,13 @@
 -- An endpoint where nothing waits and no connection lives.
-use Rattle.std.proofs.Common.{◌≡◌, ℕ, ◌<◌, ◌≤◌, Bool, true, false, ◌&&◌, ltb, leb, List, length, get_or, None, ap, inl, inr}
+use Rattle.std.proofs.Common.{◌≡◌, ℕ, ◌<◌, ◌≤◌, Bool, true, false, ◌&&◌, ltb, leb, List, length, get_or, None, Option, ap, inl, inr}
 use mathlib.Core.Path.{fun_ext}
 use Rattle.std.proofs.lemmas.List.{get_or_past}
-use Rattle.std.proofs.lemmas.Bool.{and_parts, leb-true, ltb-true, cond-false, cases_Bool, ltb-false}
+use Rattle.std.proofs.lemmas.Bool.{and_parts, leb-true, ltb-true, cases_Bool, ltb-false}
 use Rattle.table.specs.declared.slot.Slot.{Slot}
 use Rattle.table.specs.Slots.{lookup, answer, Cleared}
 use Rattle.table.proofs.Lookups.{lookup_absent}
 use Rattle.index.specs.declared.connection.ConnectionMeta.{ConnectionMeta}
-use Rattle.index.specs.Conns.{conns_of, no_meta}
+use Rattle.index.specs.Conns.{conn_of, conns_of}
 use Rattle.endpoint.specs.SetUps.{Sizes, places_fit, numbers_fit, tables_fit, limits_fit, set_up_fits}
 
 -- what a set-up that is taken has
@@ -45,14 +45,14 @@ fits_so x w m e =
       initial = ltb-true 192 m.initial t.0;
     }
 
--- places of which none is live hold no connection
-pub no_conns : (ms : List ConnectionMeta) → ((k : ℕ) → k < length ms → (get_or ms k no_meta).live ≡ false) → conns_of ms ≡ (λ h. None)
-no_conns ms dead = fun_ext (λ h. cond-false (get_or ms h no_meta).live _ None (at h))
+-- places without a connection hold none
+pub no_conns : (ms : List (Option ConnectionMeta)) → ((k : ℕ) → k < length ms → get_or ms k None ≡ None) → conns_of ms ≡ (λ h. None)
+no_conns ms dead = fun_ext (λ h. ap conn_of (at h))
   where
-    at : (h : ℕ) → (get_or ms h no_meta).live ≡ false
+    at : (h : ℕ) → get_or ms h None ≡ None
     at h = elim (cases_Bool (ltb h (length ms))) [
       | inl t ↦ dead h (ltb-true h (length ms) t)
-      | inr f ↦ ap (λ m. m.live) (get_or_past ms h no_meta (ltb-false h (length ms) f))
+      | inr f ↦ get_or_past ms h None (ltb-false h (length ms) f)
     ]
 
 -- a cleared table has no entries

@@ -1,8 +1,5 @@
 ghost use Rattle.std.specs.Prelude.{◌≡◌, ℕ, ◌+◌, ◌<◌, ◌≤◌, true, length, sum_by};
-ghost use Rattle.table.specs.Slots.{Reached, used};
 ghost use Rattle.records.specs.declared.shared.ConnectionId.{ConnectionId};
-ghost use Rattle.records.specs.Ids.{same_id, empty};
-ghost use Rattle.records.specs.Keys.{hash_id, same_pair, hash_pair, same_sender, hash_sender};
 ghost use Rattle.places.specs.Free.{free_list};
 ghost use Rattle.places.specs.Held.{entries, width};
 ghost use Rattle.waiting.specs.Groups.{groups, holding, proper};
@@ -42,11 +39,6 @@ pub struct Endpoint<'a> {
     handles: FreeList<'a>,
     index: ConnectionIndex<'a>,
     ghost few_incoming: { ready ≡ true → settings.max_incoming ≤ 64 },
-    ghost initial_reached: { ready ≡ true → Reached same_id hash_id index.connection_ids_initial.slots.now },
-    ghost ids_reached: { ready ≡ true → Reached same_id hash_id index.connection_ids.slots.now },
-    ghost pairs_reached: { ready ≡ true → Reached same_pair hash_pair index.incoming_connection_remotes.slots.now },
-    ghost tokens_reached: { ready ≡ true → Reached same_sender hash_sender index.connection_reset_tokens.slots.now },
-    ghost counted: { ready ≡ true → index.connection_ids_initial.count ≡ used index.connection_ids_initial.slots.now },
     ghost roomy: { ready ≡ true → 192 < length index.connection_ids_initial.slots.now },
     ghost all_connections: { ready ≡ true → length connections.items.now ≡ 128 },
     ghost all_slots: { ready ≡ true → length slots.items.now ≡ 64 },

@@ -13,10 +13,7 @@ pub fn sum_exceeds(a: u64, b: u64, limit: u64) -> bool
 pub fn reset_too_soon(last: Option<u64>, interval: u64, time: u64) -> bool
     ensures { result ≡ too_soon last interval time }
 {
-    match last {
-        None => false,
-        Some(t) => sum_exceeds(t, interval, time),
-    }
+    last.is_some_and(|t| sum_exceeds(t, interval, time))
 }
 
 /// How many identifiers there are of 1 to 4 bytes.

@@ -13,8 +13,8 @@ pub struct Memory<'a> {
     pub places: &'a mut [Place],
     /// A block for the bytes of each.
     pub blocks: &'a mut [[u8; 1500]],
-    /// 128 connections.
-    pub connections: &'a mut [ConnectionMeta],
+    /// Places for 128 connections.
+    pub connections: &'a mut [Option<ConnectionMeta>],
     /// 128 free handles.
     pub handles: &'a mut [u32],
     /// 64 free slots.

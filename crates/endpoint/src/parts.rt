@@ -1,5 +1,5 @@
 ghost use Rattle.std.specs.Prelude.{◌≡◌, ℕ, ◌≤◌, true, [], length, if◌then◌else◌};
-ghost use Rattle.table.specs.Slots.{Cleared, Reached, used};
+ghost use Rattle.table.specs.Slots.{Cleared};
 ghost use Rattle.places.specs.Free.{free_list, counting};
 ghost use Rattle.places.specs.Held.{entries, width};
 ghost use Rattle.index.specs.Conns.{conns_of};
@@ -41,7 +41,10 @@ pub(crate) fn places_over<'a>(
 }
 
 /// The places of 128 connections.
-pub(crate) fn connections_over<'a>(items: &'a mut [ConnectionMeta], ready: bool) -> Connections<'a>
+pub(crate) fn connections_over<'a>(
+    items: &'a mut [Option<ConnectionMeta>],
+    ready: bool,
+) -> Connections<'a>
     requires { ready ≡ true → 128 ≤ length items.old }
     ensures none { conns_of result.items.now ≡ none }
     ensures long { ready ≡ true → length result.items.now ≡ 128 }
@@ -65,8 +68,6 @@ pub(crate) fn numbers_over<'a>(items: &'a mut [u32], ready: bool, n: usize) -> F
 /// An empty table.
 fn table_over<'a, K: Key, V: Copy>(slots: &'a mut [Slot<K, V>], ready: bool) -> Table<'a, K, V>
     ensures cleared { Cleared result.slots.now }
-    ensures reached { Reached K.Key.same K.Key.code result.slots.now }
-    ensures counted { result.count ≡ used result.slots.now }
     ensures empty { result.count ≡ 0 }
     ensures long { ready ≡ true → length result.slots.now ≡ length slots.old }
 {

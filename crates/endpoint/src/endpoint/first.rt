@@ -1,7 +1,7 @@
 ghost use Rattle.std.specs.Prelude.{◌≡◌, ℕ, ◌≤◌, true, List, length, None};
 ghost use Rattle.std.specs.Option.{option_map};
 ghost use Rattle.records.specs.Causes.{cause_number};
-ghost use Rattle.records.specs.Received.{datagram_of};
+ghost use Rattle.records.specs.Received.{seen};
 ghost use Rattle.supply.specs.Meaning.{spent};
 ghost use Rattle.model.specs.Endpoint.{first_cause};
 ghost use Rattle.model.specs.Calls.{first_causes, first_packet, close_to};
@@ -12,8 +12,8 @@ use crate::endpoint::Endpoint;
 use crate::handled::Handled;
 use crate::limits::bad_length;
 use records::cause::Cause;
-use records::packet::{Close, Datagram};
-use supply::answers::Opens;
+use records::packet::{Close, Received};
+use supply::answers::Unopened;
 use supply::suppliers::Supplies;
 
 /// PROTOCOL_VIOLATION.
@@ -23,32 +23,27 @@ const PROTOCOL_VIOLATION: u64 = 0x0a;
 const INVALID_TOKEN: u64 = 0x0b;
 
 /// Puts a close to a datagram's sender into the lent place; its source is a drawn identifier that is recorded nowhere.
-fn initial_close<S: Supplies>(supplies: &mut S, code: u64, datagram: &Datagram, close: &mut Close)
-    ensures close { (bs : List ℕ) → close.new ≡ close_to (supply_of (S.all supplies.old)) 0 code (datagram_of datagram.now bs) }
+fn initial_close<S: Supplies>(supplies: &mut S, code: u64, received: &Received, close: &mut Close)
+    ensures close { close.new ≡ close_to (supply_of (S.all supplies.old)) 0 code (seen received.now) }
     ensures after { S.all supplies.new ≡ spent 1 0 (S.all supplies.old) }
 {
     let src_cid = supplies.generate_cid();
     *close = Close {
         code,
-        version: datagram.version,
-        addresses: datagram.addresses,
-        dst_cid: datagram.src_cid,
+        version: received.datagram.version,
+        addresses: received.datagram.addresses,
+        dst_cid: received.datagram.src_cid,
         src_cid,
     };
 }
 
 impl<'a> Endpoint<'a> {
     /// Why an unrouted Initial is dropped before it is looked into, if it is.
-    fn first_cause<S: Supplies>(
-        &self,
-        supplies: &S,
-        datagram: &Datagram,
-        bytes: &[u8],
-    ) -> Option<Cause>
+    fn first_cause<S: Supplies>(&self, supplies: &S, received: &Received) -> Option<Cause>
         requires { self.now.ready ≡ true }
-        ensures { option_map cause_number result ≡ first_cause (first_causes (config_of self.now (S.all supplies.now)) (state_of self.now) (datagram_of datagram.now bytes.now)) }
+        ensures { option_map cause_number result ≡ first_cause (first_causes (config_of self.now (S.all supplies.now)) (state_of self.now) (seen received.now)) }
     {
-        if bytes.len() < 1200 {
+        if received.bytes.len() < 1200 {
             return Some(Cause::ShortInitial);
         }
         if self.saturated(supplies.cid_len()) {
@@ -57,7 +52,7 @@ impl<'a> Endpoint<'a> {
         if self.no_place() {
             return Some(Cause::NoPlace);
         }
-        if !supplies.knows(datagram.version, &datagram.dst_cid) {
+        if !supplies.knows(received.datagram.version, &received.datagram.dst_cid) {
             return Some(Cause::UnknownVersion);
         }
         None
@@ -67,34 +62,33 @@ impl<'a> Endpoint<'a> {
     pub(crate) fn handle_first_packet<S: Supplies>(
         &mut self,
         supplies: &mut S,
-        datagram: &Datagram,
-        bytes: &[u8],
+        received: &Received,
         close: &mut Close,
     ) -> Handled
         requires ready { self.old.ready ≡ true }
-        requires short { length bytes.now ≤ 1500 }
-        requires absent { (state_of self.old).initial datagram.now.dst_cid ≡ None }
-        ensures { (out : List ℕ) → Answered self.old self.new (S.all supplies.old) (S.all supplies.new) out out close.old close.new (datagram_of datagram.now bytes.now) result (first_packet (config_of self.old (S.all supplies.old)) (supply_of (S.all supplies.old)) (state_of self.old) (datagram_of datagram.now bytes.now)) }
+        requires short { length received.now.bytes.now ≤ 1500 }
+        requires absent { (state_of self.old).initial received.now.datagram.now.dst_cid ≡ None }
+        ensures { (out : List ℕ) → Answered self.old self.new (S.all supplies.old) (S.all supplies.new) out out close.old close.new (seen received.now) result (first_packet (config_of self.old (S.all supplies.old)) (supply_of (S.all supplies.old)) (state_of self.old) (seen received.now)) }
     {
-        if let Some(cause) = self.first_cause(supplies, datagram, bytes) {
+        if let Some(cause) = self.first_cause(supplies, received) {
             return Handled::Refused(cause);
         }
         if bad_length(
-            datagram.dst_cid.len(),
+            received.datagram.dst_cid.len(),
             supplies.cid_len(),
-            datagram.token_mark,
+            received.datagram.token_mark,
         ) {
-            initial_close(supplies, PROTOCOL_VIOLATION, datagram, close);
+            initial_close(supplies, PROTOCOL_VIOLATION, received, close);
             return Handled::Closed;
         }
-        match supplies.opens(datagram, bytes) {
-            Opens::Closed => Handled::Refused(Cause::Undecodable),
-            Opens::ReservedBits => Handled::Refused(Cause::ReservedBits),
-            Opens::BadToken => {
-                initial_close(supplies, INVALID_TOKEN, datagram, close);
+        match supplies.opens(received) {
+            Err(Unopened::Closed) => Handled::Refused(Cause::Undecodable),
+            Err(Unopened::ReservedBits) => Handled::Refused(Cause::ReservedBits),
+            Err(Unopened::BadToken) => {
+                initial_close(supplies, INVALID_TOKEN, received, close);
                 Handled::Closed
             }
-            Opens::Open(opening) => self.open(datagram, bytes, opening),
+            Ok(opening) => self.open(received, opening),
         }
     }
 }

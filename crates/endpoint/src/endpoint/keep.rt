@@ -1,6 +1,6 @@
 ghost use Rattle.std.specs.Prelude.{◌≡◌, ℕ, ◌≤◌, true, List, length, Some};
 ghost use Rattle.records.specs.declared.packet.Close.{Close as CloseRecord};
-ghost use Rattle.records.specs.Received.{datagram_of};
+ghost use Rattle.records.specs.Received.{seen};
 ghost use Rattle.supply.specs.Meaning.{Supplied};
 ghost use Rattle.model.specs.Endpoint.{to_attempt};
 ghost use Rattle.model.specs.Calls as model;
@@ -10,23 +10,24 @@ ghost use Rattle.endpoint.specs.Answers.{Answered};
 use crate::endpoint::Endpoint;
 use crate::handled::Handled;
 use records::cause::Cause;
-use records::packet::Datagram;
+use records::packet::Received;
 
 impl<'a> Endpoint<'a> {
     /// Keeps a datagram for the waiting attempt that its Initial entry names, or drops it for want of room.
-    pub(crate) fn keep(&mut self, datagram: &Datagram, bytes: &[u8], slot: u32) -> Handled
+    pub(crate) fn keep(&mut self, received: &Received, slot: u32) -> Handled
         requires ready { self.old.ready ≡ true }
-        requires short { length bytes.now ≤ 1500 }
-        requires entry { (state_of self.old).initial datagram.now.dst_cid ≡ Some (to_attempt slot) }
-        ensures { (u : Supplied) (out : List ℕ) (k : CloseRecord) → Answered self.old self.new u u out out k k (datagram_of datagram.now bytes.now) result (model.keep (config_of self.old u) (state_of self.old) (datagram_of datagram.now bytes.now) slot) }
+        requires short { length received.now.bytes.now ≤ 1500 }
+        requires entry { (state_of self.old).initial received.now.datagram.now.dst_cid ≡ Some (to_attempt slot) }
+        ensures { (u : Supplied) (out : List ℕ) (k : CloseRecord) → Answered self.old self.new u u out out k k (seen received.now) result (model.keep (config_of self.old u) (state_of self.old) (seen received.now) slot) }
     {
-        if self.too_large(slot, bytes.len() as u64) {
+        if self.too_large(slot, received.bytes.len() as u64) {
             return Handled::Refused(Cause::BufferFull);
         }
         if self.no_place() {
             return Handled::Refused(Cause::NoPlace);
         }
-        self.places.keep(slot, false, *datagram, bytes);
+        self.places
+            .keep(slot, false, *received.datagram, received.bytes);
         Handled::Kept(slot)
     }
 }

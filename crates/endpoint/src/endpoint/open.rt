@@ -1,6 +1,6 @@
 ghost use Rattle.std.specs.Prelude.{◌≡◌, ℕ, ◌<◌, ◌≤◌, true, List, length, None};
 ghost use Rattle.records.specs.declared.packet.Close.{Close as CloseRecord};
-ghost use Rattle.records.specs.Received.{datagram_of};
+ghost use Rattle.records.specs.Received.{seen};
 ghost use Rattle.supply.specs.Meaning.{Supplied};
 ghost use Rattle.places.specs.Held.{width};
 ghost use Rattle.model.specs.Records.{opened};
@@ -14,27 +14,28 @@ use crate::handled::Handled;
 use index::initial::set_initial;
 use index::target::InitialEvent;
 use records::incoming::Attempt;
-use records::packet::Datagram;
+use records::packet::Received;
 use supply::answers::Opening;
 
 impl<'a> Endpoint<'a> {
     /// Opens an attempt with its first datagram, in the slot freed last.
-    pub(crate) fn open(&mut self, datagram: &Datagram, bytes: &[u8], opening: Opening) -> Handled
+    pub(crate) fn open(&mut self, received: &Received, opening: Opening) -> Handled
         requires ready { self.old.ready ≡ true }
-        requires short { length bytes.now ≤ 1500 }
+        requires short { length received.now.bytes.now ≤ 1500 }
         requires few { length (state_of self.old).waiting < 64 }
         requires room { places_used (state_of self.old).waiting < width self.old.places }
-        requires absent { (state_of self.old).initial datagram.now.dst_cid ≡ None }
-        ensures { (u : Supplied) (out : List ℕ) (k : CloseRecord) → Answered self.old self.new u u out out k k (datagram_of datagram.now bytes.now) result (gives (opened (next_free (state_of self.old).free_slots) opening) (with_opened (state_of self.old) (next_free (state_of self.old).free_slots) (datagram_of datagram.now bytes.now))) }
+        requires absent { (state_of self.old).initial received.now.datagram.now.dst_cid ≡ None }
+        ensures { (u : Supplied) (out : List ℕ) (k : CloseRecord) → Answered self.old self.new u u out out k k (seen received.now) result (gives (opened (next_free (state_of self.old).free_slots) opening) (with_opened (state_of self.old) (next_free (state_of self.old).free_slots) (seen received.now))) }
     {
         let slot = match self.slots.pop() {
             Some(slot) => slot,
             None => unreachable(),
         };
-        self.places.keep(slot, true, *datagram, bytes);
+        self.places
+            .keep(slot, true, *received.datagram, received.bytes);
         set_initial(
             &mut self.index.connection_ids_initial,
-            datagram.dst_cid,
+            received.datagram.dst_cid,
             InitialEvent::Arrival(slot),
         );
         Handled::Opened(Attempt::new(self.number, slot), opening)

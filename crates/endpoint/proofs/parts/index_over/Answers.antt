@@ -14,11 +14,6 @@ returns c =
     let tokens = c.table_over-connection_reset_tokens in
     record {
       fresh = record {
-        initial_reached = initial.ensures.reached;
-        ids_reached = ids.ensures.reached;
-        pairs_reached = pairs.ensures.reached;
-        senders_reached = tokens.ensures.reached;
-        counted = initial.ensures.counted;
         empty = initial.ensures.empty;
         initial = ap (λ f x. option_map target_of (f x)) (no_entries same_id initial.result.slots.now initial.ensures.cleared);
         ids = no_entries same_id ids.result.slots.now ids.ensures.cleared;

@@ -1,7 +1,7 @@
 use Rattle.std.proofs.Common.{◌≡◌, ℕ, Bool, true, false, ◌&&◌, leb, length, Some, sym, ap, ◌∙◌, subst}
 use Rattle.std.proofs.lemmas.Bool.{both_ways, cond-false}
 use Rattle.records.specs.declared.cause.Cause.TheVariants.{Malformed, SetUp}
-use Rattle.records.specs.Received.{Datagram, datagram_of, well_formed}
+use Rattle.records.specs.Received.{Datagram, seen, well_formed}
 use Rattle.supply.specs.Meaning.{Supplied, AllLawful, token_of}
 use Rattle.index.specs.Routes.{target_of}
 use Rattle.model.specs.Calls.{fits}
@@ -25,7 +25,7 @@ pub returns-then-not-self : goal.returns-then-not-self
 returns-then-not-self g c =
     let e = c.args.self.now in
     let u = g.S.Supplies.all c.args.supplies.now in
-    let d = datagram_of c.args.datagram.now c.args.bytes.now in
+    let d = seen c.args.received.now in
     let o = c.args.out.now in
     record {
       refused = λ _. refuses e u o c.args.close.now d SetUp;
@@ -37,7 +37,7 @@ pub returns-then-not-fits_input : goal.returns-then-not-fits_input
 returns-then-not-fits_input g c =
     let e = c.args.self.now in
     let u = g.S.Supplies.all c.args.supplies.now in
-    let d = datagram_of c.args.datagram.now c.args.bytes.now in
+    let d = seen c.args.received.now in
     let o = c.args.out.now in
     let k = c.args.close.now in
     let unfit = input_test e u d (length o) c.cid_len.result false c.if-not-fits_input.ensures c.cid_len.ensures in
@@ -51,7 +51,7 @@ pub returns-in-Connection : goal.returns-in-Connection
 returns-in-Connection g c =
     let e = c.args.self.now in
     let u = g.S.Supplies.all c.args.supplies.now in
-    let d = datagram_of c.args.datagram.now c.args.bytes.now in
+    let d = seen c.args.received.now in
     let o = c.args.out.now in
     let k = c.args.close.now in
     let fit = input_test e u d (length o) c.cid_len.result true c.if-not-fits_input.ensures c.cid_len.ensures in
@@ -66,7 +66,7 @@ pub returns-in-Incoming : goal.returns-in-Incoming
 returns-in-Incoming g c =
     let e = c.args.self.now in
     let u = g.S.Supplies.all c.args.supplies.now in
-    let d = datagram_of c.args.datagram.now c.args.bytes.now in
+    let d = seen c.args.received.now in
     let o = c.args.out.now in
     let k = c.args.close.now in
     let fit = input_test e u d (length o) c.cid_len.result true c.if-not-fits_input.ensures c.cid_len.ensures in
@@ -81,7 +81,7 @@ pub returns-then-is_initial : goal.returns-then-is_initial
 returns-then-is_initial g c =
     let e = c.args.self.now in
     let u = g.S.Supplies.all c.args.supplies.now in
-    let d = datagram_of c.args.datagram.now c.args.bytes.now in
+    let d = seen c.args.received.now in
     let o = c.args.out.now in
     let fit = input_test e u d (length o) c.cid_len.result true c.if-not-fits_input.ensures c.cid_len.ensures in
     record {
@@ -94,7 +94,7 @@ pub returns-else-is_initial : goal.returns-else-is_initial
 returns-else-is_initial g c =
     let e = c.args.self.now in
     let u = g.S.Supplies.all c.args.supplies.now in
-    let d = datagram_of c.args.datagram.now c.args.bytes.now in
+    let d = seen c.args.received.now in
     let o = c.args.out.now in
     let k = c.args.close.now in
     let fit = input_test e u d (length o) c.cid_len.result true c.if-not-fits_input.ensures c.cid_len.ensures in

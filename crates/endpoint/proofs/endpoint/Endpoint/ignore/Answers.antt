@@ -20,7 +20,7 @@ pub set_initial-requires : goal.set_initial-requires
 set_initial-requires c =
     let e = c.args.self.now in
     let r = c.if-not-self.false in
-    record { sound = (e.initial_reached r, e.counted r); room = initial_room e r }
+    initial_room e r
 
 pub push-requires : goal.push-requires
 push-requires c =
@@ -47,18 +47,13 @@ invariant_of-self c =
     let free = free_list e.slots in
     let f = initial_of e.index in
     let g = put f d.dst None in
-    let f' = initial_in c.set_initial.new.initial in
+    let f' = initial_in c.set_initial.new.initial.slots.now in
     let none = no_empty_told f (e.no_empty r) in
     let held = in_slot_held slot ws w b.there in
     let m : ws' ≡ vs = ap groups c.spend.ensures.entries ∙ spends es slot in
-    let t = leaves e c.set_initial.new.initial c.args.attempt x slot r b c.set_initial.ensures.changed in
+    let t = leaves e c.set_initial.new.initial.slots.now c.set_initial.new.initial.count c.args.attempt x slot r b c.set_initial.ensures.changed in
     record {
       few_incoming = e.few_incoming;
-      initial_reached = λ _. c.set_initial.ensures.sound.0;
-      ids_reached = e.ids_reached;
-      pairs_reached = e.pairs_reached;
-      tokens_reached = e.tokens_reached;
-      counted = λ _. c.set_initial.ensures.sound.1;
       roomy = λ _. omega (arith, c.set_initial.ensures.long, e.roomy r);
       all_connections = e.all_connections;
       all_slots = λ _. c.push.ensures.long ∙ e.all_slots r;
@@ -89,7 +84,7 @@ returns-in-Some c =
     let r = c.if-not-self.false in
     let slot = c.spend-slot.result in
     let b = brings e c.args.attempt c.in-Some.first slot r c.spend-slot.ensures c.in-Some.ensures in
-    let t = leaves e c.set_initial.new.initial c.args.attempt c.in-Some.first.dst_cid slot r b c.set_initial.ensures.changed in
+    let t = leaves e c.set_initial.new.initial.slots.now c.set_initial.new.initial.count c.args.attempt c.in-Some.first.dst_cid slot r b c.set_initial.ensures.changed in
     record {
       refused = λ n. absurd (both_ways e.ready n r);
       ignored = λ _ u.

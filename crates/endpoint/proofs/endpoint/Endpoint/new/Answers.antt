@@ -23,11 +23,6 @@ invariant_of-result c =
     let ef : f ≡ none = ix.ensures.fresh.initial in
     record {
       few_incoming = (λ r. (fit r).few);
-      initial_reached = (λ r. ix.ensures.fresh.initial_reached);
-      ids_reached = (λ r. ix.ensures.fresh.ids_reached);
-      pairs_reached = (λ r. ix.ensures.fresh.pairs_reached);
-      tokens_reached = (λ r. ix.ensures.fresh.senders_reached);
-      counted = (λ r. ix.ensures.fresh.counted);
       roomy = (λ r. omega (arith, ix.ensures.long r, (fit r).initial));
       all_connections = (λ r. c.connections_over-connections.ensures.long r);
       all_slots = (λ r. sl.ensures.long r);

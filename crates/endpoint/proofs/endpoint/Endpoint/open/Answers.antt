@@ -37,15 +37,15 @@ pub set_initial-requires : goal.set_initial-requires
 set_initial-requires c =
     let e = c.args.self.now in
     let r = c.requires.ready in
-    record { sound = (e.initial_reached r, e.counted r); room = initial_room e r }
+    initial_room e r
 
 pub invariant_of-self : goal.invariant_of-self
 invariant_of-self c =
     let e = c.args.self.now in
     let r = c.requires.ready in
     let slot = c.in-Some.slot in
-    let x = c.args.datagram.now.dst_cid in
-    let a = arrival slot true c.args.datagram.now c.args.bytes.now in
+    let x = c.args.received.now.datagram.now.dst_cid in
+    let a = arrival slot true c.args.received.now.datagram.now c.args.received.now.bytes.now in
     let w = opened a in
     let es = entries e.places in
     let ws = groups es in
@@ -53,18 +53,13 @@ invariant_of-self c =
     let free = free_list e.slots in
     let f = initial_of e.index in
     let g = put f x (Some (to_attempt slot)) in
-    let f' = initial_in c.set_initial.new.initial in
+    let f' = initial_in c.set_initial.new.initial.slots.now in
     let top = top_cons free slot c.in-Some.ensures.top in
     let un = top_unheld free ws slot top (e.once r) in
     let n = arrives es (entries c.keep.new.self) a c.keep.ensures.entries (e.proper r) (eq-eqb (holding slot ws) 0 un) in
-    let t = enters e.index.connection_ids_initial c.set_initial.new.initial x slot c.set_initial.ensures.changed c.requires.absent in
+    let t = enters e.index.connection_ids_initial.slots.now c.set_initial.new.initial.slots.now e.index.connection_ids_initial.count c.set_initial.new.initial.count x slot c.set_initial.ensures.changed c.requires.absent in
     record {
       few_incoming = e.few_incoming;
-      initial_reached = λ _. c.set_initial.ensures.sound.0;
-      ids_reached = e.ids_reached;
-      pairs_reached = e.pairs_reached;
-      tokens_reached = e.tokens_reached;
-      counted = λ _. c.set_initial.ensures.sound.1;
       roomy = λ _. omega (arith, c.set_initial.ensures.long, e.roomy r);
       all_connections = e.all_connections;
       all_slots = λ _. ap length c.pop.ensures.items ∙ e.all_slots r;
@@ -82,9 +77,9 @@ returns c u out k =
     let e = c.args.self.now in
     let s = state_of e in
     let slot = c.in-Some.slot in
-    let x = c.args.datagram.now.dst_cid in
-    let a = arrival slot true c.args.datagram.now c.args.bytes.now in
-    let t = enters e.index.connection_ids_initial c.set_initial.new.initial x slot c.set_initial.ensures.changed c.requires.absent in
+    let x = c.args.received.now.datagram.now.dst_cid in
+    let a = arrival slot true c.args.received.now.datagram.now c.args.received.now.bytes.now in
+    let t = enters e.index.connection_ids_initial.slots.now c.set_initial.new.initial.slots.now e.index.connection_ids_initial.count c.set_initial.new.initial.count x slot c.set_initial.ensures.changed c.requires.absent in
     let next : next_free s.free_slots ≡ slot = ap (λ l. get_or l 0 0) (top_cons s.free_slots slot c.in-Some.ensures.top) in
     answered_as (ap (λ n. gives (opened_answer n c.args.opening) (with_opened s n (sent a))) next)
     (record {

@@ -1,7 +1,7 @@
 use Rattle.std.proofs.Common.{◌≡◌, ◌+◌, length, take, sym, refl, ap, ◌∙◌, subst}
 use Rattle.std.specs.Option.{option_map}
 use Rattle.records.specs.Causes.{cause_number}
-use Rattle.records.specs.Received.{datagram_of, size}
+use Rattle.records.specs.Received.{seen, size}
 use Rattle.supply.specs.Meaning.{token_of}
 use Rattle.model.specs.Endpoint.{row}
 use Rattle.model.specs.Calls.{marked, stray_by}
@@ -19,7 +19,7 @@ pub returns-in-Some : goal.returns-in-Some
 returns-in-Some g c =
     let e = c.args.self.now in
     let u = g.S.Supplies.all c.args.supplies.now in
-    let d = datagram_of c.args.datagram.now c.args.bytes.now in
+    let d = seen c.args.received.now in
     let o = c.args.out.now in
     λ k. subst (Answered e e u u o o k k d (Refused c.in-Some.cause)) (ap (stray_by (supply_of u) (state_of e) d) c.in-Some.ensures) (refuses e u o k d c.in-Some.cause)
 
@@ -27,7 +27,7 @@ pub returns : goal.returns
 returns g c =
     let e = c.args.self.now in
     let u = g.S.Supplies.all c.args.supplies.now in
-    let d = datagram_of c.args.datagram.now c.args.bytes.now in
+    let d = seen c.args.received.now in
     let o = c.args.out.now in
     let n = size d in
     let w = c.write_reset-n.ensures in
