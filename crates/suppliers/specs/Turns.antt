@@ -20,10 +20,6 @@ listed_at [] i d h = absurd (omega arith)
 listed_at (x ∷ xs) zero d h = or_left _ _ ((same_id_decides x x).1 refl)
 listed_at (x ∷ xs) (suc i) d h = or_right _ _ (listed_at xs i d (omega arith))
 
--- a search of a list, one identifier on
-pub listed_more : (xs : List ConnectionId) (i : ℕ) (x y : ConnectionId) (b : Bool) → i < length xs → x ≡ slice_index_or xs i x → b ≡ same_id x y → listed (drop i xs) y ≡ (b || listed (drop (i + 1) xs) y)
-listed_more xs i x y b h e t = at_drop_more (λ l. listed l y) xs i x h ∙ ap (λ z. same_id z y || listed (drop (i + 1) xs) y) (sym e) ∙ ap (λ a. a || listed (drop (i + 1) xs) y) (sym t)
-
 -- a list that fits keeps a generator's laws
 pub in_turn_lawful : (xs : List ConnectionId) (at : ℕ) → list_fits xs ≡ true → Lawful (in_turn xs at)
 in_turn_lawful xs at t =
@@ -36,14 +32,6 @@ in_turn_lawful xs at t =
       sized = λ i. all_of_at _ xs _ no_id (inside i) like;
       stays = λ i j h. listed_at xs _ no_id (inside i);
     }
-
--- the identifier at the place is the next
-pub in_turn_here : (xs : List ConnectionId) (n at : ℕ) (d : ConnectionId) → n ≤ length xs → at < n → slice_index_or xs at d ≡ (in_turn (take n xs) at).draw 0
-in_turn_here xs n at d few h =
-    let long : length (take n xs) ≡ n = length-take-le n xs few in
-    let z : at + 0 < length (take n xs) = omega arith in
-    let here : (at + 0) % length (take n xs) ≡ at = mod-eq_of_lt z ∙ omega arith in
-    get_or_default xs at d no_id (omega arith) ∙ sym (get_or-take n xs at no_id h) ∙ ap (λ k. get_or (take n xs) k no_id) (sym here)
 
 -- one place on, and from the last to the first
 pub in_turn_after : (xs : List ConnectionId) (at n : ℕ) → n ≡ length xs → in_turn xs ((at + 1) % n) ≡ shifted 1 (in_turn xs at)

@@ -2,6 +2,7 @@ ghost use Rattle.std.specs.Prelude.{◌≡◌, length};
 ghost use Rattle.suppliers.specs.Bytes.{xor_signature};
 ghost use Rattle.std.proofs.Common.{rules, arith};
 
+use std::array;
 use supply::supply::HmacKey;
 
 /// A key that signs by exclusive or, for tests.
@@ -26,13 +27,9 @@ impl HmacKey for XorKey {
     ghost wide = { first_of (Prim.search rules, Prim.grind (arith, Self.row.coded.inj)) };
 
     fn sign(&self, message: &[u8]) -> [u8; 32] {
-        let mut out = self.key;
-        if message.len() == 0 {
-            return out;
+        if message.is_empty() {
+            return self.key;
         }
-        for i in 0..32usize {
-            out[i] ^= message[i % message.len()];
-        }
-        out
+        array::from_fn(|i| self.key[i] ^ message[i % message.len()])
     }
 }
