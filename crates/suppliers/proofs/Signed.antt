@@ -1,5 +1,5 @@
 -- Signatures by exclusive or.
-use Rattle.std.proofs.Common.{◌≡◌, ℕ, zero, suc, ◌+◌, ◌%◌, ◌<◌, ◌≤◌, Bool, false, List, [], ◌∷◌, length, get_or, ◌==◌, refl, ap, arith, ◌∙◌, sym, subst, inl, inr}
+use Rattle.std.proofs.Common.{◌≡◌, ℕ, zero, suc, ◌+◌, ◌%◌, ◌<◌, ◌≤◌, false, List, [], ◌∷◌, length, get_or, ◌==◌, refl, ap, arith, ◌∙◌, sym, subst, inl, inr}
 use lib.Bits.{bit_xor}
 use denote.Param.Members.{Mut}
 use Rattle.std.specs.Fn.{Called}

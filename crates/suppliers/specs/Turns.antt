@@ -1,11 +1,10 @@
 -- Lists of identifiers in turn.
-use Rattle.std.specs.Prelude.{◌≡◌, ℕ, zero, suc, ◌+◌, ◌%◌, ◌<◌, ◌≤◌, Bool, true, ◌&&◌, ◌||◌, List, [], ◌∷◌, length, get_or, take, drop, nat_le, slice_index_or, refl}
-use Rattle.std.proofs.Common.{sym, ap, ◌∙◌, mod-lt, mod-eq_of_lt, arith}
+use Rattle.std.specs.Prelude.{◌≡◌, ℕ, zero, suc, ◌+◌, ◌%◌, ◌<◌, true, ◌&&◌, List, [], ◌∷◌, length, get_or, nat_le, slice_index_or, refl}
+use Rattle.std.proofs.Common.{ap, ◌∙◌, mod-lt, arith}
 use Rattle.std.proofs.Math.Nat.{mod-add-mod}
-use Rattle.std.proofs.lemmas.List.{at_drop_more, get_or_default, get_or-take, length-take-le}
 use Rattle.std.proofs.lemmas.Bool.{eqb-true, and_parts, or_left, or_right, leb-true}
 use Rattle.records.specs.declared.shared.ConnectionId.{ConnectionId}
-use Rattle.records.specs.Ids.{same_id, no_id}
+use Rattle.records.specs.Ids.{no_id}
 use Rattle.records.specs.Same.{same_id_decides}
 use Rattle.supply.specs.Meaning.{Lawful, shifted}
 use Rattle.suppliers.specs.Lists.{all_of, list_fits, listed, in_turn}

@@ -1,4 +1,4 @@
-use Rattle.std.proofs.Common.{rules, tests, ◌≡◌, ◌<◌, ◌==◌, length, arith, sym, ap, ◌∙◌, true}
+use Rattle.std.proofs.Common.{rules, tests, ◌≡◌, ◌==◌, sym, ◌∙◌}
 use Rattle.std.proofs.lemmas.Iterator.{YieldsList-from_slice}
 use Rattle.std.proofs.lemmas.Iterator.Search.{all_from_yields_List}
 use Rattle.suppliers.specs.Lists.{all_of}
