@@ -36,6 +36,7 @@ impl Named for Held {
 }
 
 /// Puts an entry into a table with room for one more, or takes the one under `k` out.
+// (d) That a table is sound is said by crate table in clauses: a struct round the table here would only say it again.
 pub(crate) fn set<K: Key, V: Copy>(table: &mut Table<K, V>, k: K, v: Option<V>)
     requires sound { Sound K.Key.same K.Key.code table.old.slots.now table.old.count }
     requires room { OnSome v (table.old.count < length table.old.slots.now) }

@@ -1,36 +1,39 @@
 ghost use Rattle.std.specs.Prelude.{◌≡◌, ℕ, ◌<◌, slice_index};
-ghost use Rattle.std.specs.Vec.Iter.{into_iter_items};
 ghost use Rattle.suppliers.specs.Bytes.{recorded_from};
 ghost use Rattle.std.proofs.Common.{rules, arith};
 
-use std::alloc::Global;
-use std::vec::IntoIter;
 use supply::supply::ByteSource;
 
 /// Recorded bytes, and then zeros.
 #[derive(Drop)]
 pub struct Recorded {
-    rest: IntoIter<u8, Global>,
-    ghost small: { (k : ℕ) → slice_index (into_iter_items rest) k < 256 },
+    bytes: Vec<u8>,
+    // (d) `vec::IntoIter` needs no place, and a lemma for the bound below and another for its end.
+    at: usize,
+    // (c) The law on the source is owed at every list, and does not hold by the type of the bytes alone.
+    ghost small: { (k : ℕ) → slice_index bytes.items k < 256 },
 }
 
 impl Recorded {
     /// The source of these bytes, from the first.
     pub fn new(bytes: Vec<u8>) -> Recorded
-        ensures { into_iter_items result.rest ≡ bytes.items }
+        ensures held { result.bytes ≡ bytes }
+        ensures start { result.at ≡ 0 }
     {
-        Recorded {
-            rest: bytes.into_iter(),
-        }
+        Recorded { bytes, at: 0 }
     }
 }
 
 impl ByteSource for Recorded {
-    ghost feeds = { λ s. recorded_from (into_iter_items s.rest) 0 };
+    ghost feeds = { λ s. recorded_from s.bytes.items s.at };
 
     ghost bytes = { first_of (Prim.search rules, Prim.grind (arith, Self.row.coded.inj)) };
 
     fn next_byte(&mut self) -> u8 {
-        self.rest.next().unwrap_or(0)
+        let Some(byte) = self.bytes.get(self.at).copied() else {
+            return 0;
+        };
+        self.at += 1;
+        byte
     }
 }
