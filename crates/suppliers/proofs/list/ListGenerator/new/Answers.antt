@@ -1,13 +1,13 @@
-use Rattle.std.proofs.Common.{rules, tests, ◌≡◌, ◌==◌, sym, ◌∙◌}
+use Rattle.std.proofs.Common.{rules, tests, ◌≡◌, ◌==◌, sym, ap, length, ◌∙◌, arith}
 use Rattle.std.proofs.lemmas.Iterator.{YieldsList-from_slice}
 use Rattle.std.proofs.lemmas.Iterator.Search.{all_from_yields_List}
+use Rattle.std.proofs.lemmas.Bool.{eqb-false}
 use Rattle.suppliers.specs.Lists.{all_of}
-use Rattle.suppliers.proofs.Fitting.{fits_from, some_from}
+use Rattle.suppliers.proofs.Fitting.{fits_from}
 use Rattle.suppliers.proofs.list.ListGenerator.new.Goals as goal
 
 pub invariant_of-result-clause-within : goal.invariant_of-result-clause-within
-invariant_of-result-clause-within c =
-    some_from c.args.ids.now _ (sym c.is_empty.ensures ∙ c.if-is_empty.false) c.in_ok-new.ensures.1
+invariant_of-result-clause-within c = omega (arith, ap length c.in_ok-new.ensures.1, eqb-false _ _ (sym c.is_empty.ensures ∙ c.if-is_empty.false))
 
 pub invariant_of-result-clause-fits : goal.invariant_of-result-clause-fits
 invariant_of-result-clause-fits c =
