@@ -1,19 +1,17 @@
-ghost use Rattle.std.specs.Prelude.{◌≡◌, ℕ, ◌≤◌, ◌++◌, length, drop};
+ghost use Rattle.std.specs.Prelude.{◌≡◌, ℕ, length};
 ghost use Rattle.supply.specs.Meaning.{spent};
 ghost use Rattle.model.specs.Endpoint.{row};
 ghost use Rattle.model.specs.Calls.{number_of};
 
 use supply::suppliers::Supplies;
 
-/// Writes the source's next `n` bytes to the front of `out`.
-pub fn draw_bytes<S: Supplies>(supplies: &mut S, out: &mut [u8], n: usize)
-    requires { n ≤ length out.old }
-    ensures bytes { out.new ≡ row (S.all supplies.old).source 0 n ++ drop n out.old }
-    ensures after { S.all supplies.new ≡ spent 0 n (S.all supplies.old) }
+/// Fills `out` with the source's next bytes.
+pub fn draw_bytes<S: Supplies>(supplies: &mut S, out: &mut [u8])
+    ensures bytes { out.new ≡ row (S.all supplies.old).source 0 (length out.old) }
+    ensures after { S.all supplies.new ≡ spent 0 (length out.old) (S.all supplies.old) }
 {
-    for i in 0..n {
-        let b = supplies.next_byte();
-        out[i] = b;
+    for byte in out {
+        *byte = supplies.next_byte();
     }
 }
 
@@ -22,7 +20,8 @@ pub fn draw_number<S: Supplies>(supplies: &mut S) -> u64
     ensures value { result ≡ number_of (row (S.all supplies.old).source 0 8) }
     ensures after { S.all supplies.new ≡ spent 0 8 (S.all supplies.old) }
 {
+    // (c) `array::from_fn` says nothing of what its calls leave, so that what was drawn would not be known.
     let mut bytes = [0; 8];
-    draw_bytes(supplies, &mut bytes, 8);
+    draw_bytes(supplies, &mut bytes);
     u64::from_be_bytes(bytes)
 }

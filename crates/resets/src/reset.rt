@@ -1,4 +1,4 @@
-ghost use Rattle.std.specs.Prelude.{◌≡◌, ℕ, ◌+◌, ◌≤◌, ◌++◌, length, take, drop};
+ghost use Rattle.std.specs.Prelude.{◌≡◌, ℕ, ◌+◌, ◌≤◌, length};
 ghost use Rattle.supply.specs.Meaning.{spent, token_of};
 ghost use Rattle.model.specs.Calls.{marked};
 ghost use Rattle.resets.specs.Bytes.{over, picked, padding, reset_bytes};
@@ -7,8 +7,11 @@ use crate::draws::{draw_bytes, draw_number};
 use records::shared::ConnectionId;
 use supply::suppliers::Supplies;
 
-/// The largest padding that is not drawn by lot: a longer reset could not be told from other packets.
-const FIXED_PADDING_LEN: usize = 26;
+/// How long a token is.
+const RESET_TOKEN_SIZE: usize = 16;
+
+/// A reset with this much padding cannot be told from other packets.
+const IDEAL_MIN_PADDING_LEN: usize = 25;
 
 /// How long the padding of a reset for `n` bytes is: one byte less than they leave room for, or a length by lot.
 pub fn padding_len<S: Supplies>(supplies: &mut S, n: usize) -> usize
@@ -19,30 +22,30 @@ pub fn padding_len<S: Supplies>(supplies: &mut S, n: usize) -> usize
     ensures low { 5 ≤ result }
     ensures high { result + 17 ≤ n }
 {
-    let most = n - 17;
-    if most <= FIXED_PADDING_LEN {
+    let most = n - RESET_TOKEN_SIZE - 1;
+    if most <= IDEAL_MIN_PADDING_LEN + 1 {
         return most;
     }
-    let span = (n - 42) as u64;
-    25 + (draw_number(supplies) % span) as usize
+    let span = most - IDEAL_MIN_PADDING_LEN;
+    IDEAL_MIN_PADDING_LEN + (draw_number(supplies) % span as u64) as usize
 }
 
 /// Marks a first byte as a packet's with a short header.
 fn mark(out: &mut [u8])
     ensures { out.new ≡ marked out.old }
 {
-    if out.len() > 0 {
-        out[0] = 0x40 + out[0] / 4;
+    if let Some(first) = out.first_mut() {
+        *first = 0x40 + *first / 4;
     }
 }
 
-/// Writes the first 16 bytes of an identifier's signature.
-fn write_token<S: Supplies>(supplies: &S, cid: &ConnectionId, out: &mut [u8], at: usize)
-    requires { at + 16 ≤ length out.old }
-    ensures { out.new ≡ take at out.old ++ (token_of (S.all supplies.now).signer cid.now ++ drop (at + 16) out.old) }
+/// Writes the first 16 bytes of an identifier's signature to the front of `out`.
+fn write_token<S: Supplies>(supplies: &S, cid: &ConnectionId, out: &mut [u8])
+    requires { 16 ≤ length out.old }
+    ensures { out.new ≡ over (token_of (S.all supplies.now).signer cid.now) out.old }
 {
     let signature = supplies.sign(cid.as_bytes());
-    out[at..at + 16].copy_from_slice(&signature[0..16]);
+    out[..RESET_TOKEN_SIZE].copy_from_slice(&signature[..RESET_TOKEN_SIZE]);
 }
 
 /// Writes a stateless reset for an identifier that came in `n` bytes, and says how long it is.
@@ -61,8 +64,9 @@ pub fn write_reset<S: Supplies>(
     ensures high { result + 1 ≤ n }
 {
     let padding = padding_len(supplies, n);
-    draw_bytes(supplies, out, padding);
-    mark(out);
-    write_token(supplies, cid, out, padding);
-    padding + 16
+    let (drawn, rest) = out.split_at_mut(padding);
+    draw_bytes(supplies, drawn);
+    mark(drawn);
+    write_token(supplies, cid, rest);
+    padding + RESET_TOKEN_SIZE
 }

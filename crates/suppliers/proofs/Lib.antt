@@ -1,2 +1,2 @@
 pub mod Signed
-pub mod Past
+pub mod Fitting

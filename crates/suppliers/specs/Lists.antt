@@ -1,13 +1,13 @@
 -- A list of identifiers that begins again after the last.
-use Rattle.std.specs.Prelude.{ℕ, ◌+◌, ◌%◌, Bool, true, false, ◌&&◌, ◌||◌, List, [], ◌∷◌, length, get_or, ◌==◌, nat_le, slice_index_or}
+use Rattle.std.specs.Prelude.{ℕ, ◌+◌, ◌%◌, Bool, ◌&&◌, List, length, get_or, ◌==◌, nat_le, slice_index_or}
+use Rattle.std.specs.List.{list_all, list_any}
 use Rattle.records.specs.declared.shared.ConnectionId.{ConnectionId}
 use Rattle.records.specs.Ids.{same_id, no_id}
 use Rattle.supply.specs.Meaning.{Generator}
 
 -- whether all identifiers of a list have this length
 abbrev pub all_of : ℕ → List ConnectionId → Bool
-all_of n [] = true
-all_of n (x ∷ xs) = x.len == n && all_of n xs
+all_of n xs = list_all (λ x. x.len == n) xs
 
 -- whether a list can be a generator's: 1 to 32 identifiers, all of the first one's length
 abbrev pub list_fits : List ConnectionId → Bool
@@ -15,8 +15,7 @@ list_fits xs = nat_le 1 (length xs) && (nat_le (length xs) 32 && all_of (get_or 
 
 -- whether a list has an identifier
 abbrev pub listed : List ConnectionId → ConnectionId → Bool
-listed [] y = false
-listed (x ∷ xs) y = same_id x y || listed xs y
+listed xs y = list_any (λ x. same_id x y) xs
 
 -- the generator of a list from a place on: the identifiers in turn, again from the first after the last, and valid are those of the list
 abbrev pub in_turn : List ConnectionId → ℕ → Generator

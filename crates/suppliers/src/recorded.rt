@@ -1,4 +1,4 @@
-ghost use Rattle.std.specs.Prelude.{◌≡◌, ℕ, ◌<◌, ◌≤◌, length, slice_index};
+ghost use Rattle.std.specs.Prelude.{◌≡◌, ℕ, ◌<◌, slice_index};
 ghost use Rattle.suppliers.specs.Bytes.{recorded_from};
 ghost use Rattle.std.proofs.Common.{rules, arith};
 
@@ -8,27 +8,10 @@ use supply::supply::ByteSource;
 #[derive(Drop)]
 pub struct Recorded {
     bytes: Vec<u8>,
+    // (d) `vec::IntoIter` needs no place, and a lemma for the bound below and another for its end.
     at: usize,
+    // (c) The law on the source is owed at every list, and does not hold by the type of the bytes alone.
     ghost small: { (k : ℕ) → slice_index bytes.items k < 256 },
-}
-
-// That a slice holds bytes is known where one is read, so this reads the first.
-fn are_bytes(bytes: &[u8])
-    ensures { (k : ℕ) → slice_index bytes.now k < 256 }
-{
-    if bytes.len() > 0 {
-        let _first = bytes[0];
-    }
-}
-
-fn byte_at(bytes: &[u8], at: usize) -> u8
-    ensures inside { at < length bytes.now → result ≡ slice_index bytes.now at }
-    ensures past { length bytes.now ≤ at → result ≡ 0 }
-{
-    if at >= bytes.len() {
-        return 0;
-    }
-    bytes[at]
 }
 
 impl Recorded {
@@ -37,7 +20,6 @@ impl Recorded {
         ensures held { result.bytes ≡ bytes }
         ensures start { result.at ≡ 0 }
     {
-        are_bytes(bytes.as_slice());
         Recorded { bytes, at: 0 }
     }
 }
@@ -48,10 +30,10 @@ impl ByteSource for Recorded {
     ghost bytes = { first_of (Prim.search rules, Prim.grind (arith, Self.row.coded.inj)) };
 
     fn next_byte(&mut self) -> u8 {
-        let b = byte_at(self.bytes.as_slice(), self.at);
-        if self.at < self.bytes.len() {
-            self.at += 1;
-        }
-        b
+        let Some(byte) = self.bytes.get(self.at).copied() else {
+            return 0;
+        };
+        self.at += 1;
+        byte
     }
 }

@@ -2,12 +2,14 @@ ghost use Rattle.std.specs.Prelude.{◌≡◌, length};
 ghost use Rattle.suppliers.specs.Bytes.{xor_signature};
 ghost use Rattle.std.proofs.Common.{rules, arith};
 
+use std::array;
 use supply::supply::HmacKey;
 
 /// A key that signs by exclusive or, for tests.
 #[derive(Drop)]
 pub struct XorKey {
     key: [u8; 32],
+    // (c) The law on signatures is owed at every list, and does not hold by the array's type alone.
     ghost wide: { length key ≡ 32 },
 }
 
@@ -26,13 +28,9 @@ impl HmacKey for XorKey {
     ghost wide = { first_of (Prim.search rules, Prim.grind (arith, Self.row.coded.inj)) };
 
     fn sign(&self, message: &[u8]) -> [u8; 32] {
-        let mut out = self.key;
-        if message.len() == 0 {
-            return out;
+        if message.is_empty() {
+            return self.key;
         }
-        for i in 0..32usize {
-            out[i] ^= message[i % message.len()];
-        }
-        out
+        array::from_fn(|i| self.key[i] ^ message[i % message.len()])
     }
 }

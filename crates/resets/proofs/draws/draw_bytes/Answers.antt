@@ -1,15 +1,18 @@
-use Rattle.std.proofs.Common.{set, ap, ◌∙◌, arith}
+use Rattle.std.proofs.Common.{[], ◌∷◌, ◌++◌, ap, ◌∙◌, arith}
+use Rattle.std.proofs.lemmas.List.{take_more_set}
 use Rattle.supply.specs.Meaning.{spent}
 use Rattle.supply.proofs.Spending.{spent_add}
-use Rattle.resets.proofs.Writing.{row_over}
+use Rattle.resets.proofs.Writing.{row_more}
 use Rattle.resets.proofs.draws.draw_bytes.Goals as goal
 
-pub loop-i-preserved : goal.loop-i-preserved
-loop-i-preserved g c =
+pub loop-byte-preserved : goal.loop-byte-preserved
+loop-byte-preserved g c =
     let s = g.S.Supplies.all c.args.supplies.now in
-    let i = c.loop-i.i in
-    let b = c.next_byte-b.result in
-    let is = c.next_byte-b.ensures.drawn ∙ ap (λ u. u.source 0) c.loop-i.invariant.1 ∙ ap s.source (omega arith) in (
-      ap (λ o. set o i b) c.loop-i.invariant.0 ∙ row_over s.source c.args.out.now i b (omega arith) is,
-      c.next_byte-b.ensures.after ∙ ap (spent 0 1) c.loop-i.invariant.1 ∙ spent_add 0 1 0 i s,
-    )
+    let i = c.loop-byte.byte-index in
+    let b = c.next_byte.result in
+    let inv = c.loop-byte.invariant in
+    let is = c.next_byte.ensures.drawn ∙ ap (λ u. u.source 0) inv.after in
+    record {
+      drawn = take_more_set c.loop-byte.byte-items i b (omega arith) ∙ ap (λ t. t ++ b ∷ []) inv.drawn ∙ row_more s.source i b is;
+      after = c.next_byte.ensures.after ∙ ap (spent 0 1) inv.after ∙ spent_add 0 1 0 i s;
+    }

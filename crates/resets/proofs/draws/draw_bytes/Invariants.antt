@@ -1,10 +1,12 @@
-use Rattle.std.proofs.Common.{◌≡◌, ◌++◌, drop}
+use Rattle.std.proofs.Common.{◌≡◌, take}
 use Rattle.supply.specs.Meaning.{spent}
 use Rattle.model.specs.Endpoint.{row}
 use Rattle.resets.proofs.draws.draw_bytes.Given as goal
 
-abbrev pub invariant-loop-i : goal.invariant-loop-i
-invariant-loop-i g l =
+abbrev pub invariant-loop-byte : goal.invariant-loop-byte
+invariant-loop-byte g l =
     let all = g.S.Supplies.all in
-    (l.out ≡ row (all l.initial.supplies).source 0 l.i ++ drop l.i l.initial.out)
-    × (all l.supplies ≡ spent 0 l.i (all l.initial.supplies))
+    record {
+      drawn : take l.byte-index l.byte-items ≡ row (all l.initial.supplies).source 0 l.byte-index;
+      after : all l.supplies ≡ spent 0 l.byte-index (all l.initial.supplies);
+    }
