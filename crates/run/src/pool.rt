@@ -10,9 +10,10 @@ pub(crate) fn put(pool: &mut [Option<Attempt>], i: usize, attempt: Attempt)
     requires free { slice_index_or pool.old i None ≡ None }
     ensures { pool.new ≡ slice_set pool.old i (Some attempt) }
 {
+    // An attempt cannot be dropped, so what stood there is looked at.
     match mem::replace(&mut pool[i], Some(attempt)) {
         None => {}
-        Some(_attempt) => unreachable(),
+        Some(_attempt) => unreachable!(),
     }
 }
 
@@ -22,15 +23,15 @@ pub(crate) fn take(pool: &mut [Option<Attempt>], i: usize) -> Option<Attempt>
     ensures value { result ≡ slice_index_or pool.old i None }
     ensures after { pool.new ≡ slice_set pool.old i None }
 {
-    mem::replace(&mut pool[i], None)
+    pool[i].take()
 }
 
 /// Whether there is no attempt.
 pub(crate) fn is_clear(pool: &[Option<Attempt>]) -> bool
     ensures { result ≡ all_none pool.now (length pool.now) }
 {
-    for i in 0..pool.len() {
-        if let Some(_) = &pool[i] {
+    for attempt in pool {
+        if attempt.is_some() {
             return false;
         }
     }

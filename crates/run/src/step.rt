@@ -11,23 +11,20 @@ use calls::answer::Answer;
 use calls::call::{Arrival, Brought, Call};
 use endpoint::endpoint::Endpoint;
 use endpoint::handled::{HandedBack, Handled};
-use records::address::{FourTuple, SocketAddr, SocketAddrV4};
+use records::address::FourTuple;
 use records::incoming::Attempt;
-use records::packet::{Close, Datagram};
+use records::packet::{Close, Received};
 use records::shared::ConnectionId;
+use std::net::{IpAddr, Ipv4Addr, SocketAddr};
 use supply::suppliers::Supplies;
 
 // What a place for a close holds before one is put there.
 fn blank_close() -> Close {
-    let remote = SocketAddr::V4(SocketAddrV4 {
-        ip: [0; 4],
-        port: 0,
-    });
     Close {
         code: 0,
         version: 0,
         addresses: FourTuple {
-            remote,
+            remote: SocketAddr::new(IpAddr::V4(Ipv4Addr::UNSPECIFIED), 0),
             local_ip: None,
         },
         dst_cid: ConnectionId::empty(),
@@ -84,12 +81,16 @@ fn handle_at<S: Supplies>(
 {
     let mut close = blank_close();
     let data = part_of(bytes, arrival.at, arrival.len);
+    let received = Received {
+        datagram: &arrival.datagram,
+        bytes: data,
+    };
     if arrival.small {
         let mut short = [0; 1499];
-        let handled = e.handle(supplies, &arrival.datagram, data, &mut short, &mut close);
+        let handled = e.handle(supplies, &received, &mut short, &mut close);
         return note(handled, close, pool, i);
     }
-    let handled = e.handle(supplies, &arrival.datagram, data, block, &mut close);
+    let handled = e.handle(supplies, &received, block, &mut close);
     note(handled, close, pool, i)
 }
 
