@@ -6,8 +6,8 @@ use Rattle.records.specs.declared.packet.Close.{Close}
 use Rattle.records.specs.declared.incoming.Attempt.{Attempt}
 use Rattle.records.specs.Ids.{no_id}
 use Rattle.records.specs.Received.{Datagram, datagram_of}
-use Rattle.supply.specs.declared.answers.Opens.TheVariants.{Closed}
-use Rattle.supply.specs.declared.answers.Greets.TheVariants.{Other}
+use Rattle.supply.specs.declared.answers.Unopened.TheVariants.{Closed}
+use Rattle.supply.specs.declared.answers.HandshakeError.TheVariants.{Other}
 use Rattle.supply.specs.Meaning.{Supplied, token_of}
 use Rattle.supply.proofs.Spending.{spent_none}
 use Rattle.model.specs.Records.{Id, Token, Answer, refused, delivered, stored, opened, closing, reset, accepted, failed, ignored, issued, done}
@@ -280,7 +280,7 @@ nothing = record {
   generator = record { len = 0; draw = λ i. no_id; valid = λ i x. false };
   source = λ i. 0;
   signer = λ message. message;
-  door = record { knows = λ version x. false; opens = λ d. Closed; proves = λ d. false; greets = λ d h xs. Other };
+  door = record { knows = λ version x. false; opens = λ d. Err Closed; proves = λ d. false; greets = λ d h xs. Err Other };
 }
 
 -- whatever the suppliers, it leaves what no call changes
