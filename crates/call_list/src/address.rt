@@ -1,4 +1,4 @@
-use crate::fields::{fixed, number_16, number_32, parts};
+use crate::fields::{fixed, number, parts};
 use crate::form::Field;
 use crate::unread::{Unread, no_word};
 use records::address::{IpAddr, Ipv4Addr, Ipv6Addr, SocketAddr, SocketAddrV4, SocketAddrV6};
@@ -9,13 +9,13 @@ pub fn remote(heap: Global, word: &str) -> Result<SocketAddr, Unread> {
     match parts(heap, word, ':')?.as_slice() {
         ["4", ip, port] => Ok(SocketAddr::V4(SocketAddrV4 {
             ip: fixed(heap, ip, Field::Remote)?,
-            port: number_16(port, Field::Remote)?,
+            port: number(port, Field::Remote)?,
         })),
         ["6", ip, port, flow, scope] => Ok(SocketAddr::V6(SocketAddrV6 {
             ip: fixed(heap, ip, Field::Remote)?,
-            port: number_16(port, Field::Remote)?,
-            flowinfo: number_32(flow, Field::Remote)?,
-            scope_id: number_32(scope, Field::Remote)?,
+            port: number(port, Field::Remote)?,
+            flowinfo: number(flow, Field::Remote)?,
+            scope_id: number(scope, Field::Remote)?,
         })),
         _ => Err(no_word(Field::Remote)),
     }
