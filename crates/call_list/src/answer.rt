@@ -1,8 +1,10 @@
-ghost use Rattle.std.specs.Prelude.{◌≡◌};
+ghost use Rattle.std.specs.Prelude.{◌≡◌, [], ◌∷◌, IfOk, string_bytes, decimal};
+ghost use Rattle.calls.specs.declared.answer.Answer.TheVariants.{Reset};
+ghost use Rattle.call_list.specs.Texts.{spaced, addresses_of, answer_text};
 ghost use Rattle.records.specs.Causes.{cause_number};
 ghost use Rattle.words.specs.Words.{cause_word};
 
-use crate::shown::{Closed, Hex, Local, Opened, Remote};
+use crate::shown::{Addresses, Closed, Hex, Opened};
 use calls::answer::Answer;
 use calls::call::Call;
 use records::address::FourTuple;
@@ -41,7 +43,9 @@ fn word_of(cause: Cause) -> &'static str
 }
 
 /// The addresses of the datagram that a line brings, if it brings one.
-fn addresses_of(line: &Option<Call>) -> Option<FourTuple> {
+fn addresses_of(line: &Option<Call>) -> Option<FourTuple>
+    ensures { result ≡ addresses_of line.now }
+{
     match line {
         Some(Call::Handle(arrival)) => Some(arrival.datagram.addresses),
         Some(Call::Ignore(_)) | None => None,
@@ -55,17 +59,20 @@ fn reset_line(
     line: &Option<Call>,
     len: usize,
     block: &[u8],
-) -> Result<String, AllocError> {
+) -> Result<String, AllocError>
+    ensures { IfOk result (λ s. string_bytes s ≡ answer_text number line.now block.now (Reset len)) }
+{
     let Some(addresses) = addresses_of(line) else {
         return format!(in heap; "{number} done");
     };
-    let remote = Remote(addresses.remote);
-    let local = Local(addresses.local_ip);
+    let addresses = Addresses(addresses);
     let bytes = Hex(&block[0..len.min(block.len())]);
-    format!(in heap; "{number} reset {remote} {local} {bytes}")
+    format!(in heap; "{number} reset {addresses} {bytes}")
 }
 
-fn refused_line(heap: Global, number: usize, cause: Cause) -> Result<String, AllocError> {
+fn refused_line(heap: Global, number: usize, cause: Cause) -> Result<String, AllocError>
+    ensures { IfOk result (λ s. string_bytes s ≡ spaced (decimal number ∷ cause_word (cause_number cause) ∷ decimal (cause_number cause) ∷ [])) }
+{
     format!(in heap; "{number} {} {}", word_of(cause), cause.number())
 }
 
@@ -76,7 +83,9 @@ pub fn answer_line(
     line: &Option<Call>,
     answer: &Answer,
     block: &[u8],
-) -> Result<String, AllocError> {
+) -> Result<String, AllocError>
+    ensures { IfOk result (λ s. string_bytes s ≡ answer_text number line.now block.now answer.now) }
+{
     match *answer {
         Answer::Refused(cause) => refused_line(heap, number, cause),
         Answer::Delivered(handle) => format!(in heap; "{number} delivered {handle}"),
