@@ -1,3 +1,6 @@
+ghost use Rattle.std.specs.Prelude.{◌≡◌, IfOk};
+ghost use Rattle.call_list.specs.Texts.{local_text};
+
 use crate::fields::{fixed, number, parts};
 use crate::form::Field;
 use crate::unread::{Unread, no_word};
@@ -22,7 +25,9 @@ pub fn remote(heap: Global, word: &str) -> Result<SocketAddr, Unread> {
 }
 
 /// A local address, if there is one.
-pub fn local(heap: Global, word: &str) -> Result<Option<IpAddr>, Unread> {
+pub fn local(heap: Global, word: &str) -> Result<Option<IpAddr>, Unread>
+    ensures { IfOk result (λ address. local_text address ≡ word.now) }
+{
     if word == "-" {
         return Ok(None);
     }

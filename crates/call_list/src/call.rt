@@ -1,6 +1,7 @@
-ghost use Rattle.std.specs.Prelude.{◌≡◌, ◌≤◌, IfOk, vec_len};
+ghost use Rattle.std.specs.Prelude.{◌≡◌, ◌≤◌, IfOk, MatchOption, codes, min, vec_len};
+ghost use Rattle.words.specs.Words.{Decimal, read_on};
 ghost use Rattle.std.specs.declared.option.Option.TheVariants.{None};
-ghost use Rattle.call_list.specs.Lines.{Within};
+ghost use Rattle.call_list.specs.Lines.{Within, BroughtBy};
 
 use crate::address::{local, remote};
 use crate::fields::{bit, bytes, fixed, identifier, number};
@@ -17,7 +18,9 @@ use words::words::fill_tail;
 const LONGEST: usize = 65535;
 
 /// An ECN mark, which may be wrong: one that is too wide for its field stays wrong.
-fn ecn_mark(word: &str) -> Result<Option<u8>, Unread> {
+fn ecn_mark(word: &str) -> Result<Option<u8>, Unread>
+    ensures { IfOk result (λ o. MatchOption o (word.now ≡ codes "-") (λ mark. Decimal word.now × (mark ≡ min (read_on 0 word.now) 255))) }
+{
     if word == "-" {
         return Ok(None);
     }
@@ -135,7 +138,9 @@ fn handle(
 }
 
 /// The attempt that a call brings to the endpoint with this number.
-fn brought(word: &str, endpoint: u32) -> Result<Brought, Unread> {
+fn brought(word: &str, endpoint: u32) -> Result<Brought, Unread>
+    ensures { IfOk result (BroughtBy word.now endpoint) }
+{
     if word == "foreign" {
         return Ok(Brought::Foreign(endpoint.wrapping_add(1), 0));
     }

@@ -59,7 +59,9 @@ pub fn bytes(heap: Global, word: &str, field: Field) -> Result<Vec<u8>, Unread>
 }
 
 /// Just N bytes.
-pub fn fixed<const N: usize>(heap: Global, word: &str, field: Field) -> Result<[u8; N], Unread> {
+pub fn fixed<const N: usize>(heap: Global, word: &str, field: Field) -> Result<[u8; N], Unread>
+    ensures { IfOk result (λ array. bytes_word array ≡ word.now) }
+{
     <[u8; N]>::try_from(bytes(heap, word, field)?.as_slice()).map_err(|_| no_word(field))
 }
 

@@ -90,7 +90,9 @@ fn with_calls(heap: Global, set_up: SetUp, lines: &[Numbered]) -> Result<Parsed,
 {
     let mut calls = Vec::new(heap);
     let mut bytes = Vec::new(heap);
+    // A loop and not `try_collect`, since the calls before a fault are kept.
     for line in lines {
+        // Not by `read`: a proof does not know what its closure would leave in `bytes`.
         let words = parts(heap, line.text, ' ')?;
         match call(heap, words.as_slice(), set_up.number, &mut bytes) {
             Ok(call) => calls.push(call)?,

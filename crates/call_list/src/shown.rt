@@ -8,6 +8,8 @@ use records::shared::ConnectionId;
 use std::fmt;
 use supply::answers::Opening;
 
+// A wrapper each, since the types are other crates', which know nothing of call lists.
+
 /// Bytes as hexadecimal digits, or `-` for none.
 #[derive(Clone, Copy)]
 pub struct Hex<'a>(pub &'a [u8]);

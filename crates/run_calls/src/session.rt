@@ -42,7 +42,7 @@ fn suppliers_of(
     })
 }
 
-// A pool without attempts.
+// A pool without attempts: a loop, since `collect` and `resize_with` ask for items that may be dropped, and an attempt is spent.
 fn clear_pool(heap: Global, n: usize) -> Result<Vec<Option<Attempt>>, AllocError> {
     let mut pool = Vec::new(heap);
     for _ in 0..n {
@@ -61,7 +61,7 @@ fn end(attempt: Option<Attempt>) {
     }
 }
 
-// The attempts that still wait end with the endpoint.
+// The attempts that still wait end with the endpoint: popped, since a `for` by value asks for items that may be dropped.
 fn end_pool(mut pool: Vec<Option<Attempt>>) {
     while let Some(attempt) = pool.pop() {
         end(attempt);
@@ -70,6 +70,7 @@ fn end_pool(mut pool: Vec<Option<Attempt>>) {
 }
 
 /// What a run leaves: the answers, and their blocks of output.
+// Two lists and not one of pairs, since `run` is lent each by itself.
 #[derive(Drop)]
 struct Left {
     answers: Vec<Answer>,
@@ -80,7 +81,7 @@ struct Left {
 fn run_list(
     heap: Global,
     four: &mut Four,
-    w: usize,
+    places: usize,
     number: u32,
     settings: Settings,
     calls: &[Call],
@@ -90,13 +91,13 @@ fn run_list(
     let mut blocks = vec![in heap; [0; 1500]; n]?;
     let mut answers = vec![in heap; Answer::Void; n]?;
     // One place more than there may be is enough to be refused.
-    let mut storage = Storage::new(heap, w.min(129))?;
+    let mut storage = Storage::new(heap, places.min(129))?;
     let mut pool = clear_pool(heap, n)?;
-    let e = run(
+    let endpoint = run(
         four,
         storage.lend(),
         settings,
-        w,
+        places,
         number,
         calls,
         bytes,
@@ -104,8 +105,8 @@ fn run_list(
         blocks.as_mut_slice(),
         answers.as_mut_slice(),
     );
-    let taken = e.is_ready();
-    drop(e);
+    let taken = endpoint.is_ready();
+    drop(endpoint);
     end_pool(pool);
     Ok(taken.then_some(Left { answers, blocks }))
 }

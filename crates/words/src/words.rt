@@ -23,6 +23,7 @@ fn unhex_digits(heap: Global, digits: &[u8]) -> Result<Option<Vec<u8>>, AllocErr
         return Ok(None);
     };
     let mut bytes = Vec::new(heap);
+    // A loop and not `try_collect`, which stops for one kind of reason: no digit is `None`, no memory an error.
     for [high, low] in pairs {
         let Some(high) = nibble(*high) else {
             return Ok(None);
