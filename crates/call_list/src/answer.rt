@@ -1,33 +1,54 @@
-ghost use Rattle.std.specs.Prelude.{◌≡◌};
+ghost use Rattle.std.specs.Prelude.{◌≡◌, [], ◌∷◌, IfOk, string_bytes, decimal};
+ghost use Rattle.calls.specs.declared.answer.Answer.TheVariants.{Reset};
+ghost use Rattle.call_list.specs.Texts.{spaced, addresses_of, answer_text};
+ghost use Rattle.records.specs.Causes.{cause_number};
 ghost use Rattle.words.specs.Words.{cause_word};
 
-use crate::list::Line;
-use crate::shown::{Closed, Hex, Local, Opened, Remote};
+use crate::shown::{Addresses, Closed, Hex, Opened};
 use calls::answer::Answer;
 use calls::call::Call;
 use records::address::FourTuple;
 use records::cause::Cause;
 use std::alloc::{AllocError, Global};
 
-/// The word for a cause of this number: the host's mistakes are refused, datagrams dropped, and spent attempts failed.
-fn word_of(cause: u8) -> &'static str
-    ensures { result.now ≡ cause_word cause }
+/// The word for a cause: the host's mistakes are refused, datagrams dropped, and spent attempts failed.
+fn word_of(cause: Cause) -> &'static str
+    ensures { result.now ≡ cause_word (cause_number cause) }
 {
     match cause {
-        8..=16 | 20..=22 => "dropped",
-        17..=19 | 23..=25 => "failed",
-        _ => "refused",
+        Cause::Malformed
+        | Cause::SetUp
+        | Cause::DeadHandle
+        | Cause::TooManyIdentifiers
+        | Cause::UnknownAttempt => "refused",
+        Cause::ShortInitial
+        | Cause::UnknownVersion
+        | Cause::Undecodable
+        | Cause::ReservedBits
+        | Cause::UnexpectedPacket
+        | Cause::InvalidIdentifier
+        | Cause::NoIdentifier
+        | Cause::ResetTooSoon
+        | Cause::TooSmallToReset
+        | Cause::Saturated
+        | Cause::BufferFull
+        | Cause::NoPlace => "dropped",
+        Cause::TimedOut
+        | Cause::NotAuthentic
+        | Cause::HandshakeFailed
+        | Cause::IdentifiersExhausted
+        | Cause::NoHandle
+        | Cause::NoFreshIdentifier => "failed",
     }
 }
 
 /// The addresses of the datagram that a line brings, if it brings one.
-fn addresses_of(line: &Line) -> Option<FourTuple> {
-    let Line::Call(call) = *line else {
-        return None;
-    };
-    match call {
-        Call::Handle(arrival) => Some(arrival.datagram.addresses),
-        Call::Ignore(_) => None,
+fn addresses_of(line: &Option<Call>) -> Option<FourTuple>
+    ensures { result ≡ addresses_of line.now }
+{
+    match line {
+        Some(Call::Handle(arrival)) => Some(arrival.datagram.addresses),
+        Some(Call::Ignore(_)) | None => None,
     }
 }
 
@@ -35,45 +56,44 @@ fn addresses_of(line: &Line) -> Option<FourTuple> {
 fn reset_line(
     heap: Global,
     number: usize,
-    line: &Line,
+    line: &Option<Call>,
     len: usize,
     block: &[u8],
-) -> Result<String, AllocError> {
+) -> Result<String, AllocError>
+    ensures { IfOk result (λ s. string_bytes s ≡ answer_text number line.now block.now (Reset len)) }
+{
     let Some(addresses) = addresses_of(line) else {
         return format!(in heap; "{number} done");
     };
-    let remote = Remote(addresses.remote);
-    let local = Local(addresses.local_ip);
+    let addresses = Addresses(addresses);
     let bytes = Hex(&block[0..len.min(block.len())]);
-    format!(in heap; "{number} reset {remote} {local} {bytes}")
+    format!(in heap; "{number} reset {addresses} {bytes}")
 }
 
-fn refused_line(heap: Global, number: usize, cause: Cause) -> Result<String, AllocError> {
-    let cause = cause.number();
-    let word = word_of(cause);
-    format!(in heap; "{number} {word} {cause}")
+fn refused_line(heap: Global, number: usize, cause: Cause) -> Result<String, AllocError>
+    ensures { IfOk result (λ s. string_bytes s ≡ spaced (decimal number ∷ cause_word (cause_number cause) ∷ decimal (cause_number cause) ∷ [])) }
+{
+    format!(in heap; "{number} {} {}", word_of(cause), cause.number())
 }
 
 /// The text of the answer to the call of this number, from 0, whose line and whose block of output these are.
 pub fn answer_line(
     heap: Global,
     number: usize,
-    line: &Line,
+    line: &Option<Call>,
     answer: &Answer,
     block: &[u8],
-) -> Result<String, AllocError> {
+) -> Result<String, AllocError>
+    ensures { IfOk result (λ s. string_bytes s ≡ answer_text number line.now block.now answer.now) }
+{
     match *answer {
         Answer::Refused(cause) => refused_line(heap, number, cause),
         Answer::Delivered(handle) => format!(in heap; "{number} delivered {handle}"),
         Answer::Kept(slot) => format!(in heap; "{number} kept {slot}"),
         Answer::Opened(slot, opening) => {
-            let opened = Opened(opening);
-            format!(in heap; "{number} opened {slot} {opened}")
+            format!(in heap; "{number} opened {slot} {}", Opened(opening))
         }
-        Answer::Closed(close) => {
-            let closed = Closed(close);
-            format!(in heap; "{number} closed {closed}")
-        }
+        Answer::Closed(close) => format!(in heap; "{number} closed {}", Closed(close)),
         Answer::Reset(len) => reset_line(heap, number, line, len, block),
         Answer::Ignored => format!(in heap; "{number} ignored"),
         Answer::Void => format!(in heap; "{number} void"),

@@ -1,11 +1,11 @@
-ghost use Rattle.std.specs.Prelude.{◌≡◌, ◌≤◌, IfOk, vec_len};
-ghost use Rattle.call_list.specs.declared.list.Line.TheVariants.{Malformed};
-ghost use Rattle.call_list.specs.Lines.{Within};
+ghost use Rattle.std.specs.Prelude.{◌≡◌, ◌≤◌, IfOk, MatchOption, codes, min, vec_len};
+ghost use Rattle.words.specs.Words.{Decimal, read_on};
+ghost use Rattle.std.specs.declared.option.Option.TheVariants.{None};
+ghost use Rattle.call_list.specs.Lines.{Within, BroughtBy};
 
 use crate::address::{local, remote};
-use crate::fields::{bit, bytes, fixed, identifier, number, number_32};
+use crate::fields::{bit, bytes, fixed, identifier, number};
 use crate::form::{Field, Form, Later};
-use crate::list::Line;
 use crate::unread::{Unread, no_line, no_word, not_yet};
 use calls::call::{Arrival, Brought, Call};
 use records::address::FourTuple;
@@ -15,14 +15,16 @@ use std::alloc::Global;
 use words::words::fill_tail;
 
 /// The longest datagram whose bytes are taken.
-const LONGEST: u64 = 65535;
+const LONGEST: usize = 65535;
 
 /// An ECN mark, which may be wrong: one that is too wide for its field stays wrong.
-fn ecn_mark(word: &str) -> Result<Option<u8>, Unread> {
+fn ecn_mark(word: &str) -> Result<Option<u8>, Unread>
+    ensures { IfOk result (λ o. MatchOption o (word.now ≡ codes "-") (λ mark. Decimal word.now × (mark ≡ min (read_on 0 word.now) 255))) }
+{
     if word == "-" {
         return Ok(None);
     }
-    Ok(Some(number(word, Field::Ecn)?.min(255) as u8))
+    Ok(Some(number::<u64>(word, Field::Ecn)?.min(255) as u8))
 }
 
 /// The kind of a datagram's first packet.
@@ -58,17 +60,14 @@ fn first_packet(heap: Global, words: &[&str]) -> Result<Packet, Unread> {
         kind: kind_of(kind)?,
         dst: identifier(heap, dst, Field::Destination)?,
         src: identifier(heap, src, Field::Origin)?,
-        version: number_32(version, Field::Version)?,
+        version: number(version, Field::Version)?,
         token_mark: bit(mark, Field::Mark)?,
     })
 }
 
 /// The datagram of a `handle` line, or `None` where an identifier has more than 20 bytes.
 fn datagram(heap: Global, words: &[&str]) -> Result<Option<Datagram>, Unread> {
-    if words.len() != 14 {
-        return Err(no_line(Form::Handle));
-    }
-    let [_, time, peer, here, ecn, _, first, ..] = words else {
+    let [time, peer, here, ecn, _, first, packet @ .., _, _] = words else {
         return Err(no_line(Form::Handle));
     };
     let time = number(time, Field::Time)?;
@@ -77,12 +76,9 @@ fn datagram(heap: Global, words: &[&str]) -> Result<Option<Datagram>, Unread> {
         local_ip: local(heap, here)?,
     };
     let ecn = ecn_mark(ecn)?;
-    let first_len = number(first, Field::First)? as usize;
-    let packet = first_packet(heap, &words[7..12])?;
-    let Some(dst_cid) = packet.dst else {
-        return Ok(None);
-    };
-    let Some(src_cid) = packet.src else {
+    let first_len = number(first, Field::First)?;
+    let packet = first_packet(heap, packet)?;
+    let (Some(dst_cid), Some(src_cid)) = (packet.dst, packet.src) else {
         return Ok(None);
     };
     Ok(Some(Datagram {
@@ -99,37 +95,41 @@ fn datagram(heap: Global, words: &[&str]) -> Result<Option<Datagram>, Unread> {
 }
 
 /// A `handle` line without bytes. TAIL is too long, unless N or FIRST is no length: then the line is refused for that.
-fn no_bytes(n: u64, first: u64) -> Result<Line, Unread>
-    ensures { IfOk result (λ l. l ≡ Malformed) }
+fn no_bytes(n: usize, first: usize) -> Result<Option<Call>, Unread>
+    ensures { IfOk result (λ l. l ≡ None) }
 {
     if n > 0 && n <= 1500 && first > 0 && first <= n {
         return Err(no_word(Field::Tail));
     }
-    Ok(Line::Malformed)
+    Ok(None)
 }
 
-/// A `handle` line: the datagram's bytes go behind the others.
-fn handle(heap: Global, words: &[&str], small: bool, all: &mut Vec<u8>) -> Result<Line, Unread>
+/// A `handle` line after its first word: the datagram's bytes go behind the others.
+fn handle(
+    heap: Global,
+    words: &[&str],
+    small: bool,
+    all: &mut Vec<u8>,
+) -> Result<Option<Call>, Unread>
     ensures within { IfOk result (Within (vec_len all.new)) }
     ensures grows { vec_len all.old ≤ vec_len all.new }
 {
-    let [_, _, _, _, _, n, _, _, _, _, _, _, fill, tail] = words else {
+    let [_, _, _, _, n, _, _, _, _, _, _, fill, tail] = words else {
         return Err(no_line(Form::Handle));
     };
-    let n = number(n, Field::Length)?;
+    let len = number(n, Field::Length)?;
     let datagram = datagram(heap, words)?;
     let [fill] = fixed::<1>(heap, fill, Field::Fill)?;
     let tail = bytes(heap, tail, Field::Tail)?;
     let Some(datagram) = datagram else {
-        return Ok(Line::Malformed);
+        return Ok(None);
     };
-    if n > LONGEST || tail.len() as u64 > n {
-        return no_bytes(n, datagram.first_len as u64);
+    if len > LONGEST || tail.len() > len {
+        return no_bytes(len, datagram.first_len);
     }
     let at = all.len();
-    let len = n as usize;
     fill_tail(all, len, fill, tail.as_slice())?;
-    Ok(Line::Call(Call::Handle(Arrival {
+    Ok(Some(Call::Handle(Arrival {
         datagram,
         at,
         len,
@@ -138,22 +138,29 @@ fn handle(heap: Global, words: &[&str], small: bool, all: &mut Vec<u8>) -> Resul
 }
 
 /// The attempt that a call brings to the endpoint with this number.
-fn brought(word: &str, endpoint: u32) -> Result<Brought, Unread> {
+fn brought(word: &str, endpoint: u32) -> Result<Brought, Unread>
+    ensures { IfOk result (BroughtBy word.now endpoint) }
+{
     if word == "foreign" {
         return Ok(Brought::Foreign(endpoint.wrapping_add(1), 0));
     }
-    Ok(Brought::Opened(number(word, Field::Attempt)? as usize))
+    Ok(Brought::Opened(number(word, Field::Attempt)?))
 }
 
 /// A call's line, as its words, for the endpoint with this number.
-pub fn call(heap: Global, words: &[&str], endpoint: u32, all: &mut Vec<u8>) -> Result<Line, Unread>
+pub fn call(
+    heap: Global,
+    words: &[&str],
+    endpoint: u32,
+    all: &mut Vec<u8>,
+) -> Result<Option<Call>, Unread>
     ensures within { IfOk result (Within (vec_len all.new)) }
     ensures grows { vec_len all.old ≤ vec_len all.new }
 {
     match words {
-        ["handle", .., "small"] if words.len() == 15 => handle(heap, &words[0..14], true, all),
-        ["handle", ..] => handle(heap, words, false, all),
-        ["ignore", k] => Ok(Line::Call(Call::Ignore(brought(k, endpoint)?))),
+        ["handle", rest @ .., "small"] if rest.len() == 13 => handle(heap, rest, true, all),
+        ["handle", rest @ ..] => handle(heap, rest, false, all),
+        ["ignore", k] => Ok(Some(Call::Ignore(brought(k, endpoint)?))),
         ["ignore", ..] => Err(no_line(Form::Ignore)),
         ["accept", ..] => Err(not_yet(Later::Accept)),
         ["refuse", ..] => Err(not_yet(Later::Refuse)),

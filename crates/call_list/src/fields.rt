@@ -1,7 +1,7 @@
-ghost use Rattle.std.specs.Prelude.{◌≡◌, ◌^◌, ◌<◌, [], ◌∷◌, IfOk, if◌then◌else◌, MatchOption};
-ghost use Rattle.std.specs.Result.{OkIff};
+ghost use Rattle.std.specs.Prelude.{◌≡◌, [], ◌∷◌, IfOk, if◌then◌else◌, MatchOption, codes};
 ghost use Rattle.records.specs.Ids.{id_bytes};
-ghost use Rattle.words.specs.Words.{bytes_word, read_on, Decimal, Long};
+ghost use Rattle.call_list.specs.Numerals.{Numeral};
+ghost use Rattle.words.specs.Words.{bytes_word, Long};
 
 use crate::form::Field;
 use crate::unread::{Unread, no_word};
@@ -14,30 +14,26 @@ pub fn parts<'a>(heap: Global, text: &'a str, by: char) -> Result<Vec<&'a str>, 
     text.split(by).collect(heap)
 }
 
-/// A number of 64 bits.
-pub fn number(word: &str, field: Field) -> Result<u64, Unread>
-    ensures { OkIff result (Decimal word.now) (read_on 0 word.now) }
+/// A number that fits its type.
+pub fn number<T: TryFrom<u64>>(word: &str, field: Field) -> Result<T, Unread>
+where
+    T::Error: Drop,
+    ensures { Numeral T.try_from_gives word.now result }
 {
-    decimal(word).ok_or(no_word(field))
+    let n = decimal(word).ok_or(no_word(field))?;
+    T::try_from(n).map_err(|_| no_word(field))
 }
 
-/// A number of 32 bits.
-pub fn number_32(word: &str, field: Field) -> Result<u32, Unread>
-    ensures { OkIff result (Decimal word.now × (read_on 0 word.now < 2 ^ 32)) (read_on 0 word.now) }
+/// A word that is one of two.
+fn either(word: &str, no: &str, yes: &str, field: Field) -> Result<bool, Unread>
+    ensures { IfOk result (λ b. word.now ≡ (if b then yes.now else no.now)) }
 {
-    match u32::try_from(number(word, field)?) {
-        Ok(n) => Ok(n),
-        Err(_) => Err(no_word(field)),
-    }
-}
-
-/// A number of 16 bits.
-pub fn number_16(word: &str, field: Field) -> Result<u16, Unread>
-    ensures { OkIff result (Decimal word.now × (read_on 0 word.now < 2 ^ 16)) (read_on 0 word.now) }
-{
-    match u16::try_from(number(word, field)?) {
-        Ok(n) => Ok(n),
-        Err(_) => Err(no_word(field)),
+    if word == no {
+        Ok(false)
+    } else if word == yes {
+        Ok(true)
+    } else {
+        Err(no_word(field))
     }
 }
 
@@ -45,20 +41,14 @@ pub fn number_16(word: &str, field: Field) -> Result<u16, Unread>
 pub fn bit(word: &str, field: Field) -> Result<bool, Unread>
     ensures { IfOk result (λ b. word.now ≡ (if b then 49 ∷ [] else 48 ∷ [])) }
 {
-    match word {
-        "0" => Ok(false),
-        "1" => Ok(true),
-        _ => Err(no_word(field)),
-    }
+    either(word, "0", "1", field)
 }
 
 /// A word that is `yes` or `no`.
-pub fn yes_no(word: &str, field: Field) -> Result<bool, Unread> {
-    match word {
-        "yes" => Ok(true),
-        "no" => Ok(false),
-        _ => Err(no_word(field)),
-    }
+pub fn yes_no(word: &str, field: Field) -> Result<bool, Unread>
+    ensures { IfOk result (λ b. word.now ≡ (if b then codes "yes" else codes "no")) }
+{
+    either(word, "no", "yes", field)
 }
 
 /// Bytes, as hexadecimal digits or `-`.
@@ -69,11 +59,10 @@ pub fn bytes(heap: Global, word: &str, field: Field) -> Result<Vec<u8>, Unread>
 }
 
 /// Just N bytes.
-pub fn fixed<const N: usize>(heap: Global, word: &str, field: Field) -> Result<[u8; N], Unread> {
-    match <[u8; N]>::try_from(bytes(heap, word, field)?.as_slice()) {
-        Ok(array) => Ok(array),
-        Err(_) => Err(no_word(field)),
-    }
+pub fn fixed<const N: usize>(heap: Global, word: &str, field: Field) -> Result<[u8; N], Unread>
+    ensures { IfOk result (λ array. bytes_word array ≡ word.now) }
+{
+    <[u8; N]>::try_from(bytes(heap, word, field)?.as_slice()).map_err(|_| no_word(field))
 }
 
 /// An identifier, or `None` for one of more than 20 bytes.

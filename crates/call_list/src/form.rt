@@ -1,7 +1,7 @@
 use std::fmt;
 
 /// The form of a line of a call list.
-#[derive(Clone, Copy)]
+#[derive(Clone, Copy, Debug, PartialEq, Eq)]
 pub enum Form {
     /// The six lines of a set-up: the text ends before them.
     SetUp,
@@ -17,7 +17,7 @@ pub enum Form {
 }
 
 /// The form of a word, or of a part of one.
-#[derive(Clone, Copy)]
+#[derive(Clone, Copy, Debug, PartialEq, Eq)]
 pub enum Field {
     Number,
     Places,
@@ -52,7 +52,7 @@ pub enum Field {
 }
 
 /// A word of the format that is not there yet.
-#[derive(Clone, Copy)]
+#[derive(Clone, Copy, Debug, PartialEq, Eq)]
 pub enum Later {
     Random,
     Hashed,
@@ -67,9 +67,9 @@ pub enum Later {
     Drained,
 }
 
-impl Form {
-    fn text(self) -> &'static str {
-        match self {
+impl fmt::Display for Form {
+    fn fmt<W: fmt::Write>(&self, f: &mut fmt::Formatter<W>) -> fmt::Result {
+        f.write_str(match self {
             Form::SetUp => "the set-up: endpoint, settings, generator, source, signer and door",
             Form::Endpoint => "endpoint NUMBER W",
             Form::Settings =>
@@ -83,13 +83,13 @@ impl Form {
             Form::Handle =>
                 "handle TIME REMOTE LOCAL ECN N FIRST KIND DST SRC VERSION MARK FILL TAIL",
             Form::Ignore => "ignore K",
-        }
+        })
     }
 }
 
-impl Field {
-    fn text(self) -> &'static str {
-        match self {
+impl fmt::Display for Field {
+    fn fmt<W: fmt::Write>(&self, f: &mut fmt::Formatter<W>) -> fmt::Result {
+        f.write_str(match self {
             Field::Number => "NUMBER: a number of 32 bits",
             Field::Places => "W: a number",
             Field::MaxIncoming => "MAX_INCOMING: a number",
@@ -120,13 +120,13 @@ impl Field {
             Field::Fill => "FILL: two hexadecimal digits",
             Field::Tail => "TAIL: at most N bytes",
             Field::Attempt => "K: a call's number or foreign",
-        }
+        })
     }
 }
 
-impl Later {
-    fn text(self) -> &'static str {
-        match self {
+impl fmt::Display for Later {
+    fn fmt<W: fmt::Write>(&self, f: &mut fmt::Formatter<W>) -> fmt::Result {
+        f.write_str(match self {
             Later::Random => "random",
             Later::Hashed => "hashed",
             Later::ChaCha20 => "chacha20",
@@ -138,24 +138,6 @@ impl Later {
             Later::Retire => "retire",
             Later::ResetToken => "reset-token",
             Later::Drained => "drained",
-        }
-    }
-}
-
-impl fmt::Display for Form {
-    fn fmt<W: fmt::Write>(&self, f: &mut fmt::Formatter<W>) -> fmt::Result {
-        f.write_str(self.text())
-    }
-}
-
-impl fmt::Display for Field {
-    fn fmt<W: fmt::Write>(&self, f: &mut fmt::Formatter<W>) -> fmt::Result {
-        f.write_str(self.text())
-    }
-}
-
-impl fmt::Display for Later {
-    fn fmt<W: fmt::Write>(&self, f: &mut fmt::Formatter<W>) -> fmt::Result {
-        f.write_str(self.text())
+        })
     }
 }

@@ -12,21 +12,14 @@ use crate::unread::Unread;
 use calls::call::Call;
 use std::alloc::{AllocError, Global};
 
-/// A call's line.
-#[derive(Clone, Copy)]
-pub enum Line {
-    Call(Call),
-    /// Its datagram cannot be brought, as an identifier has more than 20 bytes, or it has more than 65,535: it is
-    /// answered `refused 1`, as the input test comes before all others.
-    Malformed,
-}
-
 /// A call list as it was read.
 #[derive(Drop)]
 pub struct Parsed {
     pub set_up: SetUp,
-    /// The calls up to the first line with a fault.
-    pub calls: Vec<Line>,
+    /// The calls up to the first line with a fault. `None` is a line whose datagram cannot be brought, as an identifier
+    /// has more than 20 bytes, or it has more than 65,535: it is answered `refused 1`, as the input test comes before
+    /// all others.
+    pub calls: Vec<Option<Call>>,
     /// The bytes of their datagrams, one after another.
     pub bytes: Vec<u8>,
     /// The fault that ends the list, if there is one.
@@ -40,44 +33,36 @@ struct Numbered<'a> {
     text: &'a str,
 }
 
+impl Numbered<'_> {
+    /// What the line's words are read as, or why the list is not read.
+    fn read<T, F: FnOnce(&[&str]) -> Result<T, Unread>>(
+        self,
+        heap: Global,
+        read: F,
+    ) -> Result<T, Failure>
+        requires { F.IsAlwaysCallable read }
+    {
+        let words = parts(heap, self.text, ' ')?;
+        read(words.as_slice()).map_err(|unread| unread.at(self.number))
+    }
+}
+
 /// The lines that are neither empty nor comments.
 fn speaking<'a>(heap: Global, text: &'a str) -> Result<Vec<Numbered<'a>>, AllocError> {
-    let mut lines = Vec::new(heap);
-    let mut number = 0usize;
-    for line in text.lines() {
-        number = number.saturating_add(1);
-        if !line.is_empty() && !line.starts_with('#') {
-            lines.push(Numbered { number, text: line })?;
-        }
-    }
-    Ok(lines)
-}
-
-/// The fault of the line of this number, unless it is the list that is not read.
-fn fault_at(unread: Unread, line: usize) -> Result<Fault, Failure> {
-    match unread {
-        Unread::Memory => Err(Failure::Memory),
-        Unread::SetUp => Err(Failure::SetUp),
-        Unread::Trouble(trouble) => Ok(Fault { line, trouble }),
-    }
-}
-
-/// What a line of the set-up was read as, or why the list is not read.
-fn at_line<T>(read: Result<T, Unread>, line: usize) -> Result<T, Failure> {
-    match read {
-        Ok(x) => Ok(x),
-        Err(unread) => Err(Failure::Fault(fault_at(unread, line)?)),
-    }
+    text.lines()
+        .enumerate()
+        .filter(|(_, line)| !line.is_empty() && !line.starts_with('#'))
+        .map(|(before, text)| Numbered {
+            number: before.saturating_add(1),
+            text,
+        })
+        .collect(heap)
 }
 
 /// The fault of a text that ends before its set-up does.
 fn cut_off(lines: &[Numbered]) -> Failure {
-    let line = match lines.last() {
-        Some(last) => last.number.saturating_add(1),
-        None => 1,
-    };
     Failure::Fault(Fault {
-        line,
+        line: lines.last().map_or(1, |last| last.number.saturating_add(1)),
         trouble: Trouble::Line(Form::SetUp),
     })
 }
@@ -87,50 +72,50 @@ fn set_up(heap: Global, lines: &[Numbered]) -> Result<SetUp, Failure> {
     let [first, second, third, fourth, fifth, sixth, ..] = lines else {
         return Err(cut_off(lines));
     };
-    let words = parts(heap, first.text, ' ')?;
-    let (number, places) = at_line(endpoint(words.as_slice()), first.number)?;
-    let words = parts(heap, second.text, ' ')?;
-    let settings = at_line(settings(words.as_slice()), second.number)?;
-    let words = parts(heap, third.text, ' ')?;
-    let ids = at_line(generator(heap, words.as_slice()), third.number)?;
-    let words = parts(heap, fourth.text, ' ')?;
-    let recorded = at_line(source(heap, words.as_slice()), fourth.number)?;
-    let words = parts(heap, fifth.text, ' ')?;
-    let key = at_line(signer(heap, words.as_slice()), fifth.number)?;
-    let words = parts(heap, sixth.text, ' ')?;
-    let rows = at_line(door(heap, words.as_slice()), sixth.number)?;
+    let (number, places) = first.read(heap, endpoint)?;
     Ok(SetUp {
         number,
         places,
-        settings,
-        ids,
-        recorded,
-        key,
-        rows,
+        settings: second.read(heap, settings)?,
+        ids: third.read(heap, |words| generator(heap, words))?,
+        recorded: fourth.read(heap, |words| source(heap, words))?,
+        key: fifth.read(heap, |words| signer(heap, words))?,
+        rows: sixth.read(heap, |words| door(heap, words))?,
     })
 }
 
-/// The calls of these lines up to the first with a fault, the bytes of their datagrams, and the fault.
-fn read_calls(
-    heap: Global,
-    lines: &[Numbered],
-    endpoint: u32,
-) -> Result<(Vec<Line>, Vec<u8>, Option<Fault>), Failure>
-    ensures { IfOk result (λ p. AllByRecursion (Within (vec_len p.1)) p.0.items) }
+/// The set-up with the calls of these lines up to the first with a fault, the bytes of their datagrams, and the fault.
+fn with_calls(heap: Global, set_up: SetUp, lines: &[Numbered]) -> Result<Parsed, Failure>
+    ensures { IfOk result (λ p. AllByRecursion (Within (vec_len p.bytes)) p.calls.items) }
 {
     let mut calls = Vec::new(heap);
     let mut bytes = Vec::new(heap);
+    // A loop and not `try_collect`, since the calls before a fault are kept.
     for line in lines {
+        // Not by `read`: a proof does not know what its closure would leave in `bytes`.
         let words = parts(heap, line.text, ' ')?;
-        match call(heap, words.as_slice(), endpoint, &mut bytes) {
-            Ok(read) => calls.push(read)?,
-            Err(unread) => {
-                let fault = fault_at(unread, line.number)?;
-                return Ok((calls, bytes, Some(fault)));
+        match call(heap, words.as_slice(), set_up.number, &mut bytes) {
+            Ok(call) => calls.push(call)?,
+            Err(Failure::Fault(trouble)) => {
+                let line = line.number;
+                let end = Some(Fault { line, trouble });
+                return Ok(Parsed {
+                    set_up,
+                    calls,
+                    bytes,
+                    end,
+                });
             }
+            Err(unread) => return Err(unread.at(line.number)),
         }
     }
-    Ok((calls, bytes, None))
+    let end = None;
+    Ok(Parsed {
+        set_up,
+        calls,
+        bytes,
+        end,
+    })
 }
 
 /// Reads a call list: its set-up, and its calls up to the first line with a fault.
@@ -140,12 +125,5 @@ pub fn parse(heap: Global, text: &str) -> Result<Parsed, Failure>
     let lines = speaking(heap, text)?;
     let lines = lines.as_slice();
     let (front, rest) = lines.split_at(lines.len().min(6));
-    let set_up = set_up(heap, front)?;
-    let (calls, bytes, end) = read_calls(heap, rest, set_up.number)?;
-    Ok(Parsed {
-        set_up,
-        calls,
-        bytes,
-        end,
-    })
+    with_calls(heap, set_up(heap, front)?, rest)
 }

@@ -1,16 +1,6 @@
 use records::config::Settings;
 use records::shared::ConnectionId;
-use supply::answers::{Greets, Opens};
-
-/// What a door of rows says of one version.
-#[derive(Clone, Copy)]
-pub struct RowText {
-    pub version: u32,
-    pub knows: bool,
-    pub opens: Opens,
-    pub proves: bool,
-    pub greets: Greets,
-}
+use suppliers::rows::Row;
 
 /// What an endpoint is set up with.
 #[derive(Drop)]
@@ -27,5 +17,5 @@ pub struct SetUp {
     /// The key of its signer.
     pub key: [u8; 32],
     /// The rows of its door: the first that fits the version answers.
-    pub rows: Vec<RowText>,
+    pub rows: Vec<Row>,
 }

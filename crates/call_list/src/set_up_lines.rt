@@ -1,10 +1,11 @@
-use crate::fields::{bit, bytes, fixed, identifier, number, number_32, parts, yes_no};
+use crate::fault::Failure;
+use crate::fields::{bit, bytes, fixed, identifier, number, parts, yes_no};
 use crate::form::{Field, Form, Later};
-use crate::set_up::RowText;
 use crate::unread::{Unread, no_line, no_word, not_yet};
 use records::config::Settings;
 use records::shared::ConnectionId;
 use std::alloc::Global;
+use suppliers::rows::Row;
 use supply::answers::{Greets, Opening, Opens};
 
 /// The line `endpoint NUMBER W`.
@@ -13,8 +14,8 @@ pub fn endpoint(words: &[&str]) -> Result<(u32, usize), Unread> {
         return Err(no_line(Form::Endpoint));
     };
     Ok((
-        number_32(number_word, Field::Number)?,
-        number(places, Field::Places)? as usize,
+        number(number_word, Field::Number)?,
+        number(places, Field::Places)?,
     ))
 }
 
@@ -37,7 +38,7 @@ pub fn settings(words: &[&str]) -> Result<Settings, Unread> {
         word => Some(number(word, Field::IdleTimeout)?),
     };
     Ok(Settings {
-        max_incoming: number(incoming, Field::MaxIncoming)?.min(u32::MAX as u64) as u32,
+        max_incoming: number::<u64>(incoming, Field::MaxIncoming)?.min(u32::MAX as u64) as u32,
         incoming_buffer_size: number(buffer, Field::Buffer)?,
         incoming_buffer_size_total: number(total, Field::BufferTotal)?,
         min_reset_interval: number(interval, Field::ResetInterval)?,
@@ -48,7 +49,7 @@ pub fn settings(words: &[&str]) -> Result<Settings, Unread> {
 
 /// An identifier of the set-up, which refuses one of more than 20 bytes.
 fn set_up_id(heap: Global, word: &str, field: Field) -> Result<ConnectionId, Unread> {
-    identifier(heap, word, field)?.ok_or(Unread::SetUp)
+    identifier(heap, word, field)?.ok_or(Failure::SetUp)
 }
 
 /// The line of the generator.
@@ -59,11 +60,9 @@ pub fn generator(heap: Global, words: &[&str]) -> Result<Vec<ConnectionId>, Unre
         ["generator", "hashed", ..] => return Err(not_yet(Later::Hashed)),
         _ => return Err(no_line(Form::Generator)),
     };
-    let mut ids = Vec::new(heap);
-    for word in list.split(',') {
-        ids.push(set_up_id(heap, word, Field::Identifier)?)?;
-    }
-    Ok(ids)
+    list.split(',')
+        .map(|word| set_up_id(heap, word, Field::Identifier))
+        .try_collect(heap)
 }
 
 /// The line of the byte source.
@@ -116,10 +115,10 @@ fn greets(heap: Global, word: &str) -> Result<Greets, Unread> {
     }
 }
 
-fn row(heap: Global, word: &str) -> Result<RowText, Unread> {
+fn row(heap: Global, word: &str) -> Result<Row, Unread> {
     match parts(heap, word, '/')?.as_slice() {
-        [version, knows, opens_word, proves, greets_word] => Ok(RowText {
-            version: number_32(version, Field::Version)?,
+        [version, knows, opens_word, proves, greets_word] => Ok(Row {
+            version: number(version, Field::Version)?,
             knows: yes_no(knows, Field::Knows)?,
             opens: opens(heap, opens_word)?,
             proves: yes_no(proves, Field::Proves)?,
@@ -130,16 +129,14 @@ fn row(heap: Global, word: &str) -> Result<RowText, Unread> {
 }
 
 /// The line of the door.
-pub fn door(heap: Global, words: &[&str]) -> Result<Vec<RowText>, Unread> {
+pub fn door(heap: Global, words: &[&str]) -> Result<Vec<Row>, Unread> {
     let list = match words {
         ["door", "rows", "-"] => return Ok(Vec::new(heap)),
         ["door", "rows", list] => *list,
         ["door", "signed", ..] => return Err(not_yet(Later::Signed)),
         _ => return Err(no_line(Form::Door)),
     };
-    let mut rows = Vec::new(heap);
-    for word in list.split(';') {
-        rows.push(row(heap, word)?)?;
-    }
-    Ok(rows)
+    list.split(';')
+        .map(|word| row(heap, word))
+        .try_collect(heap)
 }

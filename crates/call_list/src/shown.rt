@@ -1,8 +1,14 @@
-use records::address::{IpAddr, SocketAddr};
+ghost use Rattle.std.specs.Prelude.{Some};
+ghost use Rattle.call_list.specs.Texts.{remote_text, local_text, id_text, retry_text, addresses_text, opened_text, closed_text};
+ghost use Rattle.words.specs.Words.{bytes_word};
+
+use records::address::{FourTuple, IpAddr, SocketAddr};
 use records::packet::Close;
 use records::shared::ConnectionId;
 use std::fmt;
 use supply::answers::Opening;
+
+// A wrapper each, since the types are other crates', which know nothing of call lists.
 
 /// Bytes as hexadecimal digits, or `-` for none.
 #[derive(Clone, Copy)]
@@ -20,6 +26,14 @@ pub struct Local(pub Option<IpAddr>);
 #[derive(Clone, Copy)]
 pub struct Id(pub ConnectionId);
 
+/// The identifier of a Retry packet, or `none`.
+#[derive(Clone, Copy)]
+pub struct Retry(pub Option<ConnectionId>);
+
+/// The addresses of a datagram, or of what answers it: REMOTE LOCAL.
+#[derive(Clone, Copy)]
+pub struct Addresses(pub FourTuple);
+
 /// What a door said of an attempt: VALIDATED ORIGINAL RETRY.
 #[derive(Clone, Copy)]
 pub struct Opened(pub Opening);
@@ -29,11 +43,13 @@ pub struct Opened(pub Opening);
 pub struct Closed(pub Close);
 
 impl fmt::Display for Hex<'_> {
+    ghost output = { λ x. Some (bytes_word x.0.now) };
+
     fn fmt<W: fmt::Write>(&self, f: &mut fmt::Formatter<W>) -> fmt::Result {
         if self.0.is_empty() {
             return f.write_str("-");
         }
-        for byte in self.0 {
+        for &byte in self.0 {
             write!(f, "{byte:02x}")?;
         }
         Ok(())
@@ -41,6 +57,8 @@ impl fmt::Display for Hex<'_> {
 }
 
 impl fmt::Display for Remote {
+    ghost output = { λ x. Some (remote_text x.0) };
+
     fn fmt<W: fmt::Write>(&self, f: &mut fmt::Formatter<W>) -> fmt::Result {
         match self.0 {
             SocketAddr::V4(a) => {
@@ -58,6 +76,8 @@ impl fmt::Display for Remote {
 }
 
 impl fmt::Display for Local {
+    ghost output = { λ x. Some (local_text x.0) };
+
     fn fmt<W: fmt::Write>(&self, f: &mut fmt::Formatter<W>) -> fmt::Result {
         match self.0 {
             None => f.write_str("-"),
@@ -68,30 +88,63 @@ impl fmt::Display for Local {
 }
 
 impl fmt::Display for Id {
+    ghost output = { λ x. Some (id_text x.0) };
+
     fn fmt<W: fmt::Write>(&self, f: &mut fmt::Formatter<W>) -> fmt::Result {
         write!(f, "{}", Hex(self.0.as_bytes()))
     }
 }
 
-impl fmt::Display for Opened {
+impl fmt::Display for Retry {
+    ghost output = { λ x. Some (retry_text x.0) };
+
     fn fmt<W: fmt::Write>(&self, f: &mut fmt::Formatter<W>) -> fmt::Result {
-        let validated = self.0.validated as u8;
-        write!(f, "{validated} {} ", Id(self.0.original))?;
-        match self.0.retry {
+        match self.0 {
             None => f.write_str("none"),
             Some(id) => write!(f, "{}", Id(id)),
         }
     }
 }
 
-impl fmt::Display for Closed {
+impl fmt::Display for Addresses {
+    ghost output = { λ x. Some (addresses_text x.0) };
+
     fn fmt<W: fmt::Write>(&self, f: &mut fmt::Formatter<W>) -> fmt::Result {
-        let code = self.0.code;
-        let version = self.0.version;
-        let remote = Remote(self.0.addresses.remote);
-        let local = Local(self.0.addresses.local_ip);
-        let dst = Id(self.0.dst_cid);
-        let src = Id(self.0.src_cid);
-        write!(f, "{code} {version} {remote} {local} {dst} {src}")
+        write!(f, "{} {}", Remote(self.0.remote), Local(self.0.local_ip))
+    }
+}
+
+impl fmt::Display for Opened {
+    ghost output = { λ x. Some (opened_text x.0) };
+
+    fn fmt<W: fmt::Write>(&self, f: &mut fmt::Formatter<W>) -> fmt::Result {
+        let validated = self.0.validated as u8;
+        write!(
+            f,
+            "{validated} {} {}",
+            Id(self.0.original),
+            Retry(self.0.retry)
+        )
+    }
+}
+
+impl fmt::Display for Closed {
+    ghost output = { λ x. Some (closed_text x.0) };
+
+    fn fmt<W: fmt::Write>(&self, f: &mut fmt::Formatter<W>) -> fmt::Result {
+        let Close {
+            code,
+            version,
+            addresses,
+            dst_cid,
+            src_cid,
+        } = self.0;
+        let addresses = Addresses(addresses);
+        write!(
+            f,
+            "{code} {version} {addresses} {} {}",
+            Id(dst_cid),
+            Id(src_cid)
+        )
     }
 }

@@ -3,7 +3,7 @@
 mod memory;
 mod session;
 
-use crate::session::{Session, answers_of};
+use crate::session::answers_of;
 use anyhow::anyhow;
 use call_list::fault::Failure;
 use call_list::list::parse;
@@ -21,16 +21,16 @@ fn run(rt: &HostRuntime) -> anyhow::Result<()> {
     let parsed = match parse(rt.alloc(), text.as_str()) {
         Ok(parsed) => parsed,
         Err(Failure::SetUp) => return Ok(println!(rt; "set-up refused 2")?),
-        Err(Failure::Memory) => return Err(anyhow!("\"no memory\"")),
         Err(Failure::Fault(fault)) => {
             eprintln!(rt; "{fault}")?;
             return Err(anyhow!("\"the set-up cannot be read\""));
         }
+        Err(failure) => return Err(anyhow!("\"{failure}\"")),
     };
     let end = parsed.end;
     match answers_of(rt.alloc(), parsed)? {
-        Session::Refused => println!(rt; "set-up refused 2")?,
-        Session::Answers(lines) => {
+        None => println!(rt; "set-up refused 2")?,
+        Some(lines) => {
             for line in lines.as_slice() {
                 println!(rt; "{line}")?;
             }

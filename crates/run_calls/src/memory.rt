@@ -10,6 +10,7 @@ use std::alloc::{AllocError, Global};
 use table::slot::Slot;
 
 /// The memory that is lent to an endpoint.
+// It mirrors `Memory` field by field, since an endpoint has no heap, and is lent each slice.
 #[derive(Drop)]
 pub struct Storage {
     places: Vec<Place>,
@@ -23,6 +24,7 @@ pub struct Storage {
     connection_reset_tokens: Vec<Slot<RemoteToken, u32>>,
 }
 
+// Blanks and not `Default`, which only the crates of these types could give them.
 fn no_addresses() -> FourTuple {
     FourTuple {
         remote: SocketAddr::V4(SocketAddrV4 {
@@ -77,11 +79,11 @@ fn no_connection() -> ConnectionMeta {
 }
 
 impl Storage {
-    /// Memory for an endpoint with `w` places for datagrams.
-    pub fn new(heap: Global, w: usize) -> Result<Storage, AllocError> {
+    /// Memory for an endpoint with so many places for datagrams.
+    pub fn new(heap: Global, places: usize) -> Result<Storage, AllocError> {
         Ok(Storage {
-            places: vec![in heap; no_place(); w]?,
-            blocks: vec![in heap; [0; 1500]; w]?,
+            places: vec![in heap; no_place(); places]?,
+            blocks: vec![in heap; [0; 1500]; places]?,
             connections: vec![in heap; no_connection(); 128]?,
             handles: vec![in heap; 0; 128]?,
             slots: vec![in heap; 0; 64]?,

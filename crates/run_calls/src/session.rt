@@ -1,7 +1,7 @@
 use crate::memory::{Storage, no_datagram};
 use call_list::answer::answer_line;
-use call_list::list::{Line, Parsed};
-use call_list::set_up::{RowText, SetUp};
+use call_list::list::Parsed;
+use call_list::set_up::SetUp;
 use calls::answer::Answer;
 use calls::call::{Arrival, Call};
 use records::cause::Cause;
@@ -16,36 +16,16 @@ use suppliers::rows::{Row, RowDoor};
 use suppliers::xor::XorKey;
 use supply::suppliers::Suppliers;
 
-/// What comes of a call list.
-#[derive(Drop)]
-pub enum Session {
-    Refused,
-    Answers(Vec<String>),
-}
-
 type Four = Suppliers<ListGenerator, Recorded, XorKey, RowDoor>;
 
-fn row_of(row: &RowText) -> Row {
-    Row {
-        version: row.version,
-        knows: row.knows,
-        opens: row.opens,
-        proves: row.proves,
-        greets: row.greets,
-    }
-}
-
 // A line that cannot be brought is a datagram without bytes: it is refused by 1 as well.
-fn call_of(line: &Line) -> Call {
-    match line {
-        Line::Call(call) => *call,
-        Line::Malformed => Call::Handle(Arrival {
-            datagram: no_datagram(),
-            at: 0,
-            len: 0,
-            small: false,
-        }),
-    }
+fn call_of(line: &Option<Call>) -> Call {
+    line.unwrap_or(Call::Handle(Arrival {
+        datagram: no_datagram(),
+        at: 0,
+        len: 0,
+        small: false,
+    }))
 }
 
 fn suppliers_of(
@@ -62,23 +42,7 @@ fn suppliers_of(
     })
 }
 
-fn rows_of(heap: Global, rows: &[RowText]) -> Result<Vec<Row>, AllocError> {
-    let mut all = Vec::new(heap);
-    for row in rows {
-        all.push(row_of(row))?;
-    }
-    Ok(all)
-}
-
-fn calls_of(heap: Global, lines: &[Line]) -> Result<Vec<Call>, AllocError> {
-    let mut all = Vec::new(heap);
-    for line in lines {
-        all.push(call_of(line))?;
-    }
-    Ok(all)
-}
-
-// A pool without attempts.
+// A pool without attempts: a loop, since `collect` and `resize_with` ask for items that may be dropped, and an attempt is spent.
 fn clear_pool(heap: Global, n: usize) -> Result<Vec<Option<Attempt>>, AllocError> {
     let mut pool = Vec::new(heap);
     for _ in 0..n {
@@ -97,7 +61,7 @@ fn end(attempt: Option<Attempt>) {
     }
 }
 
-// The attempts that still wait end with the endpoint.
+// The attempts that still wait end with the endpoint: popped, since a `for` by value asks for items that may be dropped.
 fn end_pool(mut pool: Vec<Option<Attempt>>) {
     while let Some(attempt) = pool.pop() {
         end(attempt);
@@ -105,34 +69,35 @@ fn end_pool(mut pool: Vec<Option<Attempt>>) {
     pool.destroy_empty();
 }
 
-/// What a run leaves: whether the set-up was taken, the answers, and their blocks of output.
+/// What a run leaves: the answers, and their blocks of output.
+// Two lists and not one of pairs, since `run` is lent each by itself.
 #[derive(Drop)]
 struct Left {
-    taken: bool,
     answers: Vec<Answer>,
     blocks: Vec<[u8; 1500]>,
 }
 
+// What a run of these calls leaves, or `None` where the set-up is refused.
 fn run_list(
     heap: Global,
     four: &mut Four,
-    w: usize,
+    places: usize,
     number: u32,
     settings: Settings,
     calls: &[Call],
     bytes: &[u8],
-) -> Result<Left, AllocError> {
+) -> Result<Option<Left>, AllocError> {
     let n = calls.len();
     let mut blocks = vec![in heap; [0; 1500]; n]?;
     let mut answers = vec![in heap; Answer::Void; n]?;
     // One place more than there may be is enough to be refused.
-    let mut storage = Storage::new(heap, w.min(129))?;
+    let mut storage = Storage::new(heap, places.min(129))?;
     let mut pool = clear_pool(heap, n)?;
-    let e = run(
+    let endpoint = run(
         four,
         storage.lend(),
         settings,
-        w,
+        places,
         number,
         calls,
         bytes,
@@ -140,29 +105,25 @@ fn run_list(
         blocks.as_mut_slice(),
         answers.as_mut_slice(),
     );
-    let taken = e.is_ready();
-    drop(e);
+    let taken = endpoint.is_ready();
+    drop(endpoint);
     end_pool(pool);
-    Ok(Left {
-        taken,
-        answers,
-        blocks,
-    })
+    Ok(taken.then_some(Left { answers, blocks }))
 }
 
 // One line of text for each call.
-fn lines_of(heap: Global, lines: &[Line], left: &Left) -> Result<Vec<String>, AllocError> {
-    let mut all = Vec::new(heap);
-    for (i, line) in lines.iter().enumerate() {
-        if i < left.answers.len() && i < left.blocks.len() {
-            all.push(answer_line(heap, i, line, &left.answers[i], &left.blocks[i])?)?;
-        }
-    }
-    Ok(all)
+fn lines_of(heap: Global, lines: &[Option<Call>], left: &Left) -> Result<Vec<String>, AllocError> {
+    let outputs = left.answers.iter().zip(left.blocks.iter());
+    lines
+        .iter()
+        .zip(outputs)
+        .enumerate()
+        .map(|(i, (line, (answer, block)))| answer_line(heap, i, line, answer, block))
+        .try_collect(heap)
 }
 
-/// Runs a call list that was read.
-pub fn answers_of(heap: Global, parsed: Parsed) -> Result<Session, AllocError> {
+/// Runs a call list that was read: the text of its answers, or `None` where the set-up is refused.
+pub fn answers_of(heap: Global, parsed: Parsed) -> Result<Option<Vec<String>>, AllocError> {
     let Parsed {
         set_up,
         calls: lines,
@@ -178,25 +139,21 @@ pub fn answers_of(heap: Global, parsed: Parsed) -> Result<Session, AllocError> {
         key,
         rows,
     } = set_up;
-    let rows = rows_of(heap, rows.as_slice())?;
-    let calls = calls_of(heap, lines.as_slice())?;
-    match suppliers_of(ids.as_slice(), recorded, key, rows.as_slice()) {
-        Err(_) => Ok(Session::Refused),
-        Ok(four) => {
-            let mut four = four;
-            let left = run_list(
-                heap,
-                &mut four,
-                places,
-                number,
-                settings,
-                calls.as_slice(),
-                bytes.as_slice(),
-            )?;
-            if !left.taken {
-                return Ok(Session::Refused);
-            }
-            Ok(Session::Answers(lines_of(heap, lines.as_slice(), &left)?))
-        }
-    }
+    let calls: Vec<Call> = lines.iter().map(call_of).collect(heap)?;
+    let Ok(mut four) = suppliers_of(ids.as_slice(), recorded, key, rows.as_slice()) else {
+        return Ok(None);
+    };
+    let left = run_list(
+        heap,
+        &mut four,
+        places,
+        number,
+        settings,
+        calls.as_slice(),
+        bytes.as_slice(),
+    )?;
+    let Some(left) = left else {
+        return Ok(None);
+    };
+    Ok(Some(lines_of(heap, lines.as_slice(), &left)?))
 }

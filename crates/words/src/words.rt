@@ -19,15 +19,16 @@ fn nibble(c: u8) -> Option<u8>
 fn unhex_digits(heap: Global, digits: &[u8]) -> Result<Option<Vec<u8>>, AllocError>
     ensures { IfOk result (λ o. MatchOption o (NoneHas hex_of digits.now) (λ v. hex_of v.items ≡ digits.now)) }
 {
-    if digits.len() % 2 != 0 {
+    let (pairs, []) = digits.as_chunks::<2>() else {
         return Ok(None);
-    }
+    };
     let mut bytes = Vec::new(heap);
-    for i in 0..digits.len() / 2 {
-        let Some(high) = nibble(digits[2 * i]) else {
+    // A loop and not `try_collect`, which stops for one kind of reason: no digit is `None`, no memory an error.
+    for [high, low] in pairs {
+        let Some(high) = nibble(*high) else {
             return Ok(None);
         };
-        let Some(low) = nibble(digits[2 * i + 1]) else {
+        let Some(low) = nibble(*low) else {
             return Ok(None);
         };
         bytes.push(16 * high + low)?;
@@ -52,17 +53,10 @@ pub fn unhex(heap: Global, word: &str) -> Result<Option<Vec<u8>>, AllocError>
 pub fn decimal(word: &str) -> Option<u64>
     ensures { SomeIff result (Decimal word.now) (read_on 0 word.now) }
 {
-    let text = word.as_bytes();
-    if text.is_empty() {
+    if word.starts_with('+') {
         return None;
     }
-    if text[0] == b'+' {
-        return None;
-    }
-    match word.parse::<u64>() {
-        Ok(n) => Some(n),
-        Err(_) => None,
-    }
+    word.parse::<u64>().ok()
 }
 
 /// Appends a datagram of `n` bytes: `fill` as often as it takes, then `tail`.
@@ -71,9 +65,8 @@ pub fn fill_tail(bytes: &mut Vec<u8>, n: usize, fill: u8, tail: &[u8]) -> Result
     ensures long { OnOk result (vec_len bytes.new ≡ vec_len bytes.old + (n - length tail.now) + length tail.now) }
     ensures filled { OnOk result (bytes.new.items ≡ bytes.old.items ++ filled n fill tail.now) }
 {
-    for _placed in 0..n.saturating_sub(tail.len()) {
-        bytes.push(fill)?;
-    }
-    bytes.extend_from_slice(tail)?;
-    Ok(())
+    let filling = n.saturating_sub(tail.len());
+    let filled = bytes.len().checked_add(filling).ok_or(AllocError)?;
+    bytes.resize(filled, fill)?;
+    bytes.extend_from_slice(tail)
 }
