@@ -1,9 +1,9 @@
 -- A door of rows, each with its answers for a version.
-use Rattle.std.specs.Prelude.{ℕ, false, List, Option, ◌==◌}
+use Rattle.std.specs.Prelude.{ℕ, false, List, Option, Err, ◌==◌}
 use Rattle.std.specs.List.{find}
 use Rattle.std.specs.Option.{option_map_or}
-use Rattle.supply.specs.declared.answers.Opens.TheVariants.{Closed}
-use Rattle.supply.specs.declared.answers.Greets.TheVariants.{Other}
+use Rattle.supply.specs.declared.answers.Unopened.TheVariants.{Closed}
+use Rattle.supply.specs.declared.answers.HandshakeError.TheVariants.{Other}
 use Rattle.supply.specs.Meaning.{DoorAnswers}
 use Rattle.suppliers.specs.declared.rows.Row.{Row}
 
@@ -16,7 +16,7 @@ row_for rows v = find (λ r. r.version == v) rows
 abbrev pub rows_say : List Row → DoorAnswers
 rows_say rows = record {
   knows = λ v dst. option_map_or (λ r. r.knows) (row_for rows v) false;
-  opens = λ d. option_map_or (λ r. r.opens) (row_for rows d.version) Closed;
+  opens = λ d. option_map_or (λ r. r.opens) (row_for rows d.version) (Err Closed);
   proves = λ d. option_map_or (λ r. r.proves) (row_for rows d.version) false;
-  greets = λ d handle ids. option_map_or (λ r. r.greets) (row_for rows d.version) Other;
+  greets = λ d handle ids. option_map_or (λ r. r.greets) (row_for rows d.version) (Err Other);
 }

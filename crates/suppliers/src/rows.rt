@@ -4,9 +4,9 @@ ghost use Rattle.suppliers.specs.Rows.{row_for, rows_say};
 
 use crate::few::Few;
 use records::cause::Cause;
-use records::packet::Datagram;
+use records::packet::Received;
 use records::shared::ConnectionId;
-use supply::answers::{Greets, Opens};
+use supply::answers::{HandshakeError, Opening, Unopened};
 use supply::supply::Door;
 
 /// A version, and a door's answers for it.
@@ -14,18 +14,18 @@ use supply::supply::Door;
 pub struct Row {
     pub version: u32,
     pub knows: bool,
-    pub opens: Opens,
+    pub opens: Result<Opening, Unopened>,
     pub proves: bool,
-    pub greets: Greets,
+    pub greets: Result<(), HandshakeError>,
 }
 
 // What fills the unused places of a door.
 const BLANK: Row = Row {
     version: 0,
     knows: false,
-    opens: Opens::Closed,
+    opens: Err(Unopened::Closed),
     proves: false,
-    greets: Greets::Other,
+    greets: Err(HandshakeError::Other),
 };
 
 /// A door that answers by the first row of the version that it is asked about.
@@ -59,23 +59,23 @@ impl Door for RowDoor {
         self.row(version).map_or(false, |row| row.knows)
     }
 
-    fn opens(&self, datagram: &Datagram, bytes: &[u8]) -> Opens {
-        self.row(datagram.version)
-            .map_or(Opens::Closed, |row| row.opens)
+    fn opens(&self, received: &Received) -> Result<Opening, Unopened> {
+        self.row(received.datagram.version)
+            .map_or(Err(Unopened::Closed), |row| row.opens)
     }
 
-    fn proves(&self, datagram: &Datagram, bytes: &[u8]) -> bool {
-        self.row(datagram.version).map_or(false, |row| row.proves)
+    fn proves(&self, received: &Received) -> bool {
+        self.row(received.datagram.version)
+            .map_or(false, |row| row.proves)
     }
 
     fn greets(
         &self,
-        datagram: &Datagram,
-        bytes: &[u8],
+        received: &Received,
         handle: u32,
         ids: &[ConnectionId],
-    ) -> Greets {
-        self.row(datagram.version)
-            .map_or(Greets::Other, |row| row.greets)
+    ) -> Result<(), HandshakeError> {
+        self.row(received.datagram.version)
+            .map_or(Err(HandshakeError::Other), |row| row.greets)
     }
 }
