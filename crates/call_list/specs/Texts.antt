@@ -4,10 +4,12 @@ use Rattle.std.specs.declared.option.Option.{Option}
 use Rattle.std.specs.declared.option.Option.TheVariants.{Some, None}
 use Rattle.records.specs.Causes.{cause_number}
 use Rattle.records.specs.Ids.{id_bytes}
-use Rattle.records.specs.declared.address.SocketAddr as socket
-use Rattle.records.specs.declared.address.SocketAddr.TheVariants as sockets
-use Rattle.records.specs.declared.address.IpAddr as ip
-use Rattle.records.specs.declared.address.IpAddr.TheVariants as ips
+use Rattle.std.specs.declared.net.socket_addr.SocketAddr as socket
+use Rattle.std.specs.declared.net.socket_addr.SocketAddr.TheVariants as sockets
+use Rattle.std.specs.declared.net.ip_addr.IpAddr as ip
+use Rattle.std.specs.declared.net.ip_addr.IpAddr.TheVariants as ips
+use Rattle.std.specs.Net.Addr.{ipv4_octets, ipv6_octets}
+use Rattle.std.specs.Net.Socket.{v4_ip, v4_port, v6_ip, v6_port, v6_flowinfo, v6_scope_id}
 use Rattle.records.specs.declared.address.FourTuple.{FourTuple}
 use Rattle.records.specs.declared.packet.Close.{Close}
 use Rattle.records.specs.declared.shared.ConnectionId.{ConnectionId}
@@ -34,14 +36,14 @@ coloned words = joined 58 words
 
 -- a peer's address
 abbrev pub remote_text : socket.SocketAddr → List ℕ
-remote_text (sockets.V4 a) = coloned (codes "4" ∷ bytes_word a.ip ∷ decimal a.port ∷ [])
-remote_text (sockets.V6 a) = coloned (codes "6" ∷ bytes_word a.ip ∷ decimal a.port ∷ decimal a.flowinfo ∷ decimal a.scope_id ∷ [])
+remote_text (sockets.V4 a) = coloned (codes "4" ∷ bytes_word (ipv4_octets (v4_ip a)) ∷ decimal (v4_port a) ∷ [])
+remote_text (sockets.V6 a) = coloned (codes "6" ∷ bytes_word (ipv6_octets (v6_ip a)) ∷ decimal (v6_port a) ∷ decimal (v6_flowinfo a) ∷ decimal (v6_scope_id a) ∷ [])
 
 -- a local address, if there is one
 abbrev pub local_text : Option ip.IpAddr → List ℕ
 local_text None = codes "-"
-local_text (Some (ips.V4 a)) = coloned (codes "4" ∷ bytes_word a.octets ∷ [])
-local_text (Some (ips.V6 a)) = coloned (codes "6" ∷ bytes_word a.octets ∷ [])
+local_text (Some (ips.V4 a)) = coloned (codes "4" ∷ bytes_word (ipv4_octets a) ∷ [])
+local_text (Some (ips.V6 a)) = coloned (codes "6" ∷ bytes_word (ipv6_octets a) ∷ [])
 
 -- an identifier
 abbrev pub id_text : ConnectionId → List ℕ

@@ -6,7 +6,7 @@ use records::config::Settings;
 use records::shared::ConnectionId;
 use std::alloc::Global;
 use suppliers::rows::Row;
-use supply::answers::{Greets, Opening, Opens};
+use supply::answers::{HandshakeError, Opening, Unopened};
 
 /// The line `endpoint NUMBER W`.
 pub fn endpoint(words: &[&str]) -> Result<(u32, usize), Unread> {
@@ -89,12 +89,12 @@ pub fn signer(heap: Global, words: &[&str]) -> Result<[u8; 32], Unread> {
     }
 }
 
-fn opens(heap: Global, word: &str) -> Result<Opens, Unread> {
+fn opens(heap: Global, word: &str) -> Result<Result<Opening, Unopened>, Unread> {
     match parts(heap, word, ':')?.as_slice() {
-        ["closed"] => Ok(Opens::Closed),
-        ["reserved"] => Ok(Opens::ReservedBits),
-        ["badtoken"] => Ok(Opens::BadToken),
-        ["open", validated, original, retry] => Ok(Opens::Open(Opening {
+        ["closed"] => Ok(Err(Unopened::Closed)),
+        ["reserved"] => Ok(Err(Unopened::ReservedBits)),
+        ["badtoken"] => Ok(Err(Unopened::BadToken)),
+        ["open", validated, original, retry] => Ok(Ok(Opening {
             validated: bit(validated, Field::Opens)?,
             original: set_up_id(heap, original, Field::Opens)?,
             retry: match *retry {
@@ -106,11 +106,11 @@ fn opens(heap: Global, word: &str) -> Result<Opens, Unread> {
     }
 }
 
-fn greets(heap: Global, word: &str) -> Result<Greets, Unread> {
+fn greets(heap: Global, word: &str) -> Result<Result<(), HandshakeError>, Unread> {
     match parts(heap, word, ':')?.as_slice() {
-        ["yes"] => Ok(Greets::Yes),
-        ["other"] => Ok(Greets::Other),
-        ["error", code] => Ok(Greets::TransportError(number(code, Field::Greets)?)),
+        ["yes"] => Ok(Ok(())),
+        ["other"] => Ok(Err(HandshakeError::Other)),
+        ["error", code] => Ok(Err(HandshakeError::TransportError(number(code, Field::Greets)?))),
         _ => Err(no_word(Field::Greets)),
     }
 }

@@ -2,10 +2,11 @@ ghost use Rattle.std.specs.Prelude.{Some};
 ghost use Rattle.call_list.specs.Texts.{remote_text, local_text, id_text, retry_text, addresses_text, opened_text, closed_text};
 ghost use Rattle.words.specs.Words.{bytes_word};
 
-use records::address::{FourTuple, IpAddr, SocketAddr};
+use records::address::FourTuple;
 use records::packet::Close;
 use records::shared::ConnectionId;
 use std::fmt;
+use std::net::{IpAddr, SocketAddr};
 use supply::answers::Opening;
 
 // A wrapper each, since the types are other crates', which know nothing of call lists.
@@ -61,15 +62,13 @@ impl fmt::Display for Remote {
 
     fn fmt<W: fmt::Write>(&self, f: &mut fmt::Formatter<W>) -> fmt::Result {
         match self.0 {
-            SocketAddr::V4(a) => {
-                let port = a.port;
-                write!(f, "4:{}:{port}", Hex(&a.ip))
-            }
+            SocketAddr::V4(a) => write!(f, "4:{}:{}", Hex(&a.ip().octets()), a.port()),
             SocketAddr::V6(a) => {
-                let port = a.port;
-                let flow = a.flowinfo;
-                let scope = a.scope_id;
-                write!(f, "6:{}:{port}:{flow}:{scope}", Hex(&a.ip))
+                let octets = a.ip().octets();
+                let port = a.port();
+                let flow = a.flowinfo();
+                let scope = a.scope_id();
+                write!(f, "6:{}:{port}:{flow}:{scope}", Hex(&octets))
             }
         }
     }
@@ -81,8 +80,8 @@ impl fmt::Display for Local {
     fn fmt<W: fmt::Write>(&self, f: &mut fmt::Formatter<W>) -> fmt::Result {
         match self.0 {
             None => f.write_str("-"),
-            Some(IpAddr::V4(a)) => write!(f, "4:{}", Hex(&a.octets)),
-            Some(IpAddr::V6(a)) => write!(f, "6:{}", Hex(&a.octets)),
+            Some(IpAddr::V4(a)) => write!(f, "4:{}", Hex(&a.octets())),
+            Some(IpAddr::V6(a)) => write!(f, "6:{}", Hex(&a.octets())),
         }
     }
 }
