@@ -9,7 +9,6 @@ use crate::places::{Blocks, Places};
 use crate::record::{Place, Written};
 use crate::scan::{attempts_in, bytes_in, compact, find_in, total_in};
 use crate::stack::Stack;
-use crate::write::write_in;
 use records::packet::{Datagram, Kept};
 
 impl<'a> Blocks<'a> {
@@ -155,12 +154,18 @@ impl<'a> Places<'a> {
         ensures records { records.new ≡ over (all_kept (mine (entries self.now) slot)) records.old }
         ensures bytes { bytes.new ≡ over (all_bytes (mine (entries self.now) slot)) bytes.old }
     {
-        write_in(
-            self.records.as_slice(),
-            &*self.blocks.items,
-            slot,
-            records,
-            bytes,
-        )
+        let blocks = &*self.blocks.items;
+        let mut kept = Stack::empty(records);
+        let mut laid = Stack::empty(bytes);
+        for p in self.records.as_slice() {
+            if p.is_of(slot) {
+                kept.push(p.kept);
+                laid.extend_from_slice(&blocks[p.block][..p.kept.len]);
+            }
+        }
+        Written {
+            count: kept.used,
+            bytes: laid.used,
+        }
     }
 }
