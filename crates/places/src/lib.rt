@@ -7,4 +7,3 @@ pub mod places;
 pub mod record;
 pub mod scan;
 pub mod stack;
-pub mod write;

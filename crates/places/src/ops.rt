@@ -7,9 +7,8 @@ ghost use Rattle.places.specs.Stacks.{held};
 
 use crate::places::{Blocks, Places};
 use crate::record::{Place, Written};
-use crate::scan::{attempts_in, bytes_in, compact, find_in, total_in};
+use crate::scan::{attempts_in, bytes_in, find_in, total_in};
 use crate::stack::Stack;
-use crate::write::write_in;
 use records::packet::{Datagram, Kept};
 
 impl<'a> Blocks<'a> {
@@ -32,14 +31,24 @@ impl<'a> Stack<'a, Place> {
         self.items[self.used].block
     }
 
-    // Takes the places of an attempt out.
+    // Takes the places of an attempt out; the others move to the front, in their order.
     fn spend(&mut self, slot: u32)
+        ensures below { self.new.used ≤ self.old.used }
         ensures front { held self.new ≡ filter (place_other slot) (held self.old) }
         ensures moved { IsPermutation self.old.items.now self.new.items.now }
         ensures long { length self.new.items.now ≡ length self.old.items.now }
     {
-        let used = self.used;
-        self.used = compact(self.items, used, slot);
+        let items = &mut *self.items;
+        let mut kept = 0;
+        // By index: no method of slices moves what passes a test to the front, in order and without a buffer.
+        for i in 0..self.used {
+            if !items[i].is_of(slot) {
+                // A swap keeps every block named by one place.
+                items.swap(kept, i);
+                kept += 1;
+            }
+        }
+        self.used = kept;
     }
 }
 
@@ -155,12 +164,18 @@ impl<'a> Places<'a> {
         ensures records { records.new ≡ over (all_kept (mine (entries self.now) slot)) records.old }
         ensures bytes { bytes.new ≡ over (all_bytes (mine (entries self.now) slot)) bytes.old }
     {
-        write_in(
-            self.records.as_slice(),
-            &*self.blocks.items,
-            slot,
-            records,
-            bytes,
-        )
+        let blocks = &*self.blocks.items;
+        let mut kept = Stack::empty(records);
+        let mut laid = Stack::empty(bytes);
+        for p in self.records.as_slice() {
+            if p.is_of(slot) {
+                kept.push(p.kept);
+                laid.extend_from_slice(&blocks[p.block][..p.kept.len]);
+            }
+        }
+        Written {
+            count: kept.used,
+            bytes: laid.used,
+        }
     }
 }

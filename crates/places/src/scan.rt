@@ -43,23 +43,3 @@ pub fn find_in(items: &[Place], slot: u32) -> Option<Datagram>
         .find(|p| p.is_of(slot) && p.first)
         .map(|p| p.kept.datagram)
 }
-
-/// Moves the places of other attempts to the front, in their order, and says how many there are.
-pub fn compact(items: &mut [Place], used: usize, slot: u32) -> usize
-    requires { used ≤ length items.old }
-    ensures below { result ≤ used }
-    ensures front { take result items.new ≡ filter (place_other slot) (take used items.old) }
-    ensures moved { IsPermutation items.old items.new }
-    ensures long { length items.new ≡ length items.old }
-{
-    let mut k = 0;
-    // By index: no method of slices moves what passes a test to the front, in order and without a buffer.
-    for i in 0..used {
-        if !items[i].is_of(slot) {
-            // A swap keeps every block named by one place.
-            items.swap(k, i);
-            k += 1;
-        }
-    }
-    k
-}

@@ -3,8 +3,8 @@ use Rattle.std.proofs.lemmas.List.{get_or_default}
 use Rattle.std.proofs.lemmas.List.Filters.{FiltersInPlace-more_no, FiltersInPlace-more_swap}
 use Rattle.std.proofs.lemmas.List.Sorted.{IsPermutation-trans}
 use Rattle.std.proofs.lemmas.Bool.{not_from_true, not_from_false}
-use Rattle.places.proofs.scan.compact.Goals as goal
-use Rattle.places.proofs.scan.compact.Goals.{then-not-is_of, else-not-is_of}
+use Rattle.places.proofs.ops.Stack+Place.spend.Goals as goal
+use Rattle.places.proofs.ops.Stack+Place.spend.Goals.{then-not-is_of, else-not-is_of}
 
 pub loop-i-preserved : goal.loop-i-preserved
 loop-i-preserved c =
@@ -14,11 +14,11 @@ loop-i-preserved c =
     let e = get_or_default ys c.loop-i.i c.index-items-i.result x lt in
     elim c.if-not-is_of.branch [
       | then-not-is_of w ↦
-          rw (w.items-is, w.k-is) (
+          rw (w.items-is, w.kept-is) (
             FiltersInPlace-more_swap {x = x} c.loop-i.invariant.0 lt (not_from_false _ (sym c.is_of.ensures ∙ w.if-not-is_of.true)) e w.swap.ensures.by_index,
             IsPermutation-trans _ _ _ c.loop-i.invariant.1 w.swap.ensures.permutation,
           )
       | else-not-is_of w ↦
-          rw (w.items-is, w.k-is)
+          rw (w.items-is, w.kept-is)
           (FiltersInPlace-more_no {x = x} c.loop-i.invariant.0 lt (not_from_true _ (sym c.is_of.ensures ∙ w.if-not-is_of.false)) e, c.loop-i.invariant.1)
     ]
