@@ -1,2 +1,3 @@
 pub mod Withins
 pub mod Printed
+pub mod Octets

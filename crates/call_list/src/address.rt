@@ -16,11 +16,18 @@ fn ipv4(heap: Global, word: &str, field: Field) -> Result<Ipv4Addr, Unread>
     Ok(Ipv4Addr::from_octets(fixed(heap, word, field)?))
 }
 
+/// The IPv6 address of these octets.
+fn ipv6_of(octets: &[u8; 16]) -> Ipv6Addr
+    ensures { ipv6_octets result ≡ octets.now }
+{
+    Ipv6Addr::from_octets(*octets)
+}
+
 /// An IPv6 address.
 fn ipv6(heap: Global, word: &str, field: Field) -> Result<Ipv6Addr, Unread>
     ensures { IfOk result (λ a. bytes_word (ipv6_octets a) ≡ word.now) }
 {
-    Ok(Ipv6Addr::from_octets(fixed(heap, word, field)?))
+    Ok(ipv6_of(&fixed(heap, word, field)?))
 }
 
 /// A peer's address.

@@ -1,12 +1,13 @@
 use endpoint::memory::Memory;
-use index::connection::{ConnectionMeta, Held};
+use index::connection::ConnectionMeta;
 use index::target::RouteDatagramTo;
 use places::record::Place;
-use records::address::{FourTuple, SocketAddr, SocketAddrV4};
+use records::address::FourTuple;
 use records::packet::{Datagram, Kept, Kind};
 use records::shared::ConnectionId;
 use records::token::RemoteToken;
 use std::alloc::{AllocError, Global};
+use std::net::{IpAddr, Ipv4Addr, SocketAddr};
 use table::slot::Slot;
 
 /// The memory that is lent to an endpoint.
@@ -15,7 +16,7 @@ use table::slot::Slot;
 pub struct Storage {
     places: Vec<Place>,
     blocks: Vec<[u8; 1500]>,
-    connections: Vec<ConnectionMeta>,
+    connections: Vec<Option<ConnectionMeta>>,
     handles: Vec<u32>,
     slots: Vec<u32>,
     connection_ids_initial: Vec<Slot<ConnectionId, RouteDatagramTo>>,
@@ -27,10 +28,7 @@ pub struct Storage {
 // Blanks and not `Default`, which only the crates of these types could give them.
 fn no_addresses() -> FourTuple {
     FourTuple {
-        remote: SocketAddr::V4(SocketAddrV4 {
-            ip: [0; 4],
-            port: 0,
-        }),
+        remote: SocketAddr::new(IpAddr::V4(Ipv4Addr::UNSPECIFIED), 0),
         local_ip: None,
     }
 }
@@ -62,29 +60,15 @@ fn no_place() -> Place {
     }
 }
 
-fn no_connection() -> ConnectionMeta {
-    let held = Held {
-        sequence: 0,
-        id: ConnectionId::empty(),
-    };
-    ConnectionMeta {
-        live: false,
-        init_cid: ConnectionId::empty(),
-        cids_issued: 0,
-        held: 0,
-        loc_cids: [held; 8],
-        addresses: no_addresses(),
-        reset_token: None,
-    }
-}
-
 impl Storage {
     /// Memory for an endpoint with so many places for datagrams.
     pub fn new(heap: Global, places: usize) -> Result<Storage, AllocError> {
+        let mut connections = Vec::new(heap);
+        connections.resize_with(128, || None)?;
         Ok(Storage {
             places: vec![in heap; no_place(); places]?,
             blocks: vec![in heap; [0; 1500]; places]?,
-            connections: vec![in heap; no_connection(); 128]?,
+            connections,
             handles: vec![in heap; 0; 128]?,
             slots: vec![in heap; 0; 64]?,
             connection_ids_initial: vec![in heap; Slot::Empty; 256]?,
