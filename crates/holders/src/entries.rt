@@ -1,9 +1,8 @@
 ghost use Rattle.std.specs.Prelude.{◌≡◌, ◌+◌, ◌<◌, ◌≤◌, map, length, OnSome};
 ghost use Rattle.std.specs.Map.{update};
-ghost use Rattle.table.specs.Slots.{lookup, Sound};
+ghost use Rattle.table.specs.Slots.{lookup};
 ghost use Rattle.records.specs.declared.shared.ConnectionId.{ConnectionId};
 ghost use Rattle.records.specs.Ids.{same_id};
-ghost use Rattle.records.specs.Keys.{hash_id};
 ghost use Rattle.model.specs.Endpoint.{put, put_all};
 
 use index::connection::Held;
@@ -36,14 +35,11 @@ impl Named for Held {
 }
 
 /// Puts an entry into a table with room for one more, or takes the one under `k` out.
-// (d) That a table is sound is said by crate table in clauses: a struct round the table here would only say it again.
 pub(crate) fn set<K: Key, V: Copy>(table: &mut Table<K, V>, k: K, v: Option<V>)
-    requires sound { Sound K.Key.same K.Key.code table.old.slots.now table.old.count }
-    requires room { OnSome v (table.old.count < length table.old.slots.now) }
-    ensures sound { Sound K.Key.same K.Key.code table.new.slots.now table.new.count }
+    requires { OnSome v (table.old.count < length table.old.slots.now) }
     ensures long { length table.new.slots.now ≡ length table.old.slots.now }
     ensures few { table.new.count ≤ table.old.count + 1 }
-    ensures maps { lookup K.Key.same table.new.slots.now ≡ update K.Key.same (lookup K.Key.same table.old.slots.now) k v }
+    ensures maps { lookup K.PartialEq.eq table.new.slots.now ≡ update K.PartialEq.eq (lookup K.PartialEq.eq table.old.slots.now) k v }
 {
     match v {
         Some(v) => {
@@ -57,9 +53,7 @@ pub(crate) fn set<K: Key, V: Copy>(table: &mut Table<K, V>, k: K, v: Option<V>)
 
 /// Enters the holder of an identifier, or removes it; the empty one has no entry.
 pub(crate) fn set_holder(ids: &mut Table<ConnectionId, u32>, id: ConnectionId, holder: Option<u32>)
-    requires sound { Sound same_id hash_id ids.old.slots.now ids.old.count }
-    requires room { OnSome holder (ids.old.count < length ids.old.slots.now) }
-    ensures sound { Sound same_id hash_id ids.new.slots.now ids.new.count }
+    requires { OnSome holder (ids.old.count < length ids.old.slots.now) }
     ensures long { length ids.new.slots.now ≡ length ids.old.slots.now }
     ensures few { ids.new.count ≤ ids.old.count + 1 }
     ensures maps { lookup same_id ids.new.slots.now ≡ put (lookup same_id ids.old.slots.now) id holder }
@@ -75,9 +69,7 @@ pub(crate) fn set_holders<T: Named>(
     cids: &[T],
     holder: Option<u32>,
 )
-    requires sound { Sound same_id hash_id ids.old.slots.now ids.old.count }
-    requires room { OnSome holder (ids.old.count + length cids.now ≤ length ids.old.slots.now) }
-    ensures sound { Sound same_id hash_id ids.new.slots.now ids.new.count }
+    requires { OnSome holder (ids.old.count + length cids.now ≤ length ids.old.slots.now) }
     ensures long { length ids.new.slots.now ≡ length ids.old.slots.now }
     ensures maps { lookup same_id ids.new.slots.now ≡ put_all (lookup same_id ids.old.slots.now) (map T.named cids.now) holder }
 {

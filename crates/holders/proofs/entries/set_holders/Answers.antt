@@ -10,7 +10,6 @@ loop-cid-preserved g c =
     let v = c.args.holder in
     let x = c.cid.result in
     record {
-      sound = set.sound;
       long = set.long ∙ before.long;
       few = omega (arith, set.few, before.few);
       maps =
