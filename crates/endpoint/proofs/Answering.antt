@@ -1,5 +1,5 @@
 -- Answers that change nothing, closes and resets.
-use Rattle.std.proofs.Common.{◌≡◌, ℕ, ◌+◌, ◌-◌, ◌%◌, ◌<◌, ◌≤◌, Bool, true, false, cond, leb, List, ◌++◌, length, take, drop, Some, None, Option, sym, refl, ap, ◌∙◌, ap₂, arith, length-append}
+use Rattle.std.proofs.Common.{◌≡◌, ℕ, ◌+◌, ◌-◌, ◌%◌, ◌<◌, ◌≤◌, Bool, true, false, cond, leb, List, ◌++◌, length, take, drop, Some, None, Option, Ok, Err, Result, sym, refl, ap, ◌∙◌, ap₂, subst, arith, length-append}
 use Rattle.std.proofs.lemmas.List.{take_at, drop_at}
 use Rattle.std.proofs.lemmas.Bool.{cond-true, cond-false, or_parts, leb-false}
 use Rattle.records.specs.declared.cause.Cause.{Cause}
@@ -9,28 +9,32 @@ use Rattle.records.specs.Received.{Datagram, size, is_initial}
 use Rattle.supply.specs.Meaning.{Opens, Supplied, spent}
 use Rattle.supply.proofs.Spending.{spent_none}
 use Rattle.model.specs.Records.{refused, delivered, closing, reset}
-use Rattle.model.specs.Endpoint.{State, Config, Supply, Target, row, first_cause, saturated, no_place, route}
+use Rattle.model.specs.Endpoint.{State, Config, Supply, Target, Outcome, row, first_cause, saturated, no_place, route}
 use Rattle.model.specs.Calls.{gives, close_to, close_now, number_of, send_reset, reset_by, reset_for, first_causes, first_by, open_by, bad_length, handle, handle_by, stray, first_packet, fits}
 use Rattle.resets.specs.Bytes.{over, picked, padding}
-use Rattle.endpoint.specs.declared.endpoint.Endpoint.{Endpoint}
-use Rattle.endpoint.specs.declared.handled.Handled.TheVariants.{Refused, Delivered, Closed}
-use Rattle.endpoint.specs.State.{state_of, supply_of, Frame}
+use Rattle.endpoint.specs.declared.handled.Handled.{Handled}
+use Rattle.endpoint.specs.declared.handled.Handled.TheVariants.{Delivered, Closed}
+use Rattle.endpoint.specs.State.{View, supply_of, Frame}
 use Rattle.endpoint.specs.Answers.{reset_of, Answered}
 
-pub same_frame : (e : Endpoint) → Frame e e
+pub same_frame : (e : View) → Frame e e
 same_frame e = record { ready = refl; settings = refl; number = refl; width = refl }
 
 -- a refusal changes nothing
-pub refuses : (e : Endpoint) (u : Supplied) (out : List ℕ) (k : Close) (d : Datagram) (x : Cause) → Answered e e u u out out k k d (Refused x) (gives (refused (cause_number x)) (state_of e))
+pub refuses : (e : View) (u : Supplied) (out : List ℕ) (k : Close) (d : Datagram) (x : Cause) → Answered e e u u out out k k d (Err x) (gives (refused (cause_number x)) e.state)
 refuses e u out k d x = record { answer = refl; number = tt; state = refl; drawn = sym (spent_none u); output = refl; close = refl; frame = same_frame e }
 
+-- a refusal by another name, of its answer and of its outcome
+pub fails : (e : View) (u : Supplied) (out : List ℕ) (k : Close) (d : Datagram) (x : Cause) (r : Result Handled Cause) (o : Outcome) → r ≡ Err x → gives (refused (cause_number x)) e.state ≡ o → Answered e e u u out out k k d r o
+fails e u out k d x r o is why = subst (λ y. Answered e e u u out out k k d y o) (sym is) (subst (Answered e e u u out out k k d (Err x)) why (refuses e u out k d x))
+
 -- nor does a datagram for a connection
-pub delivers : (e : Endpoint) (u : Supplied) (out : List ℕ) (k : Close) (d : Datagram) (h : ℕ) → Answered e e u u out out k k d (Delivered h) (gives (delivered h) (state_of e))
+pub delivers : (e : View) (u : Supplied) (out : List ℕ) (k : Close) (d : Datagram) (h : ℕ) → Answered e e u u out out k k d (Ok (Delivered h)) (gives (delivered h) e.state)
 delivers e u out k d h = record { answer = refl; number = tt; state = refl; drawn = sym (spent_none u); output = refl; close = refl; frame = same_frame e }
 
 -- a close draws one identifier
-pub closes : (e : Endpoint) (u v : Supplied) (out : List ℕ) (k k' : Close) (d : Datagram) (code : ℕ) → k' ≡ close_to (supply_of u) 0 code d → v ≡ spent 1 0 u →
-    Answered e e u v out out k k' d Closed (close_now (supply_of u) (state_of e) code d)
+pub closes : (e : View) (u v : Supplied) (out : List ℕ) (k k' : Close) (d : Datagram) (code : ℕ) → k' ≡ close_to (supply_of u) 0 code d → v ≡ spent 1 0 u →
+    Answered e e u v out out k k' d (Ok Closed) (close_now (supply_of u) e.state code d)
 closes e u v out k k' d code is drawn = record { answer = ap closing is; number = tt; state = refl; drawn = drawn; output = refl; close = is; frame = same_frame e }
 
 -- a reset draws its padding, and the length of that by lot where the datagram is long

@@ -1,12 +1,13 @@
 -- What a datagram for an attempt, old or new, makes of the state.
-use Rattle.std.proofs.Common.{◌≡◌, ℕ, ◌+◌, ◌<◌, ◌≤◌, Bool, true, false, cond, List, [], ◌∷◌, ◌++◌, length, Some, None, sum_by, Option, sym, refl, ap, ◌∙◌, subst, inl, inr, arith}
+use Rattle.std.proofs.Common.{◌≡◌, ℕ, ◌+◌, ◌<◌, ◌≤◌, Bool, true, false, cond, List, [], ◌∷◌, ◌++◌, length, Some, None, sum_by, Option, Result, sym, refl, ap, ◌∙◌, subst, inl, inr, arith}
 use mathlib.Core.Path.{fun_ext}
-use Rattle.std.specs.Option.{option_map}
+use Rattle.std.specs.Option.{option_map, IsSome}
 use Rattle.std.proofs.lemmas.List.Sums.{sum_by-cons}
 use Rattle.std.proofs.lemmas.Bool.{cond-true, cond-false, cases_Bool, and_from}
 use Rattle.table.specs.declared.slot.Slot.{Slot}
 use Rattle.table.specs.Slots.{lookup}
 use Rattle.records.specs.declared.shared.ConnectionId.{ConnectionId}
+use Rattle.records.specs.declared.cause.Cause.{Cause}
 use Rattle.records.specs.declared.packet.Close.{Close}
 use Rattle.records.specs.Ids.{same_id, empty}
 use Rattle.records.specs.Received.{Datagram}
@@ -26,8 +27,9 @@ use Rattle.index.specs.Changes.{Changed, present}
 use Rattle.index.specs.Conns.{entered_by}
 use Rattle.index.specs.Entries.{entry_after}
 use Rattle.index.specs.Routes.{target_of}
-use Rattle.endpoint.specs.declared.endpoint.Endpoint.{Endpoint}
+use Rattle.endpoint.specs.declared.endpoint.Ready.{Ready}
 use Rattle.endpoint.specs.declared.handled.Handled.{Handled}
+use Rattle.endpoint.specs.State.{View}
 use Rattle.endpoint.specs.Answers.{Answered}
 
 -- ## The Initial entries
@@ -84,24 +86,24 @@ entered_by_few (Some m ∷ ms) = omega (arith, sum_by-cons entered_by (Some m) m
     one false = omega arith
 
 -- the table of entries has room for one more
-pub initial_room : (e : Endpoint) → e.ready ≡ true → e.index.connection_ids_initial.count < length e.index.connection_ids_initial.slots.now
-initial_room e r =
+pub initial_room : (e : Ready) → e.index.connection_ids_initial.count < length e.index.connection_ids_initial.slots.now
+initial_room e =
     omega (
       arith,
-      e.few_entries r,
-      e.roomy r,
-      e.all_connections r,
-      e.shared r,
+      e.few_entries,
+      e.roomy,
+      e.all_connections,
+      e.shared,
       entered_few (groups (entries e.places)),
       entered_by_few e.connections.items.now,
     )
 
 -- ## One more datagram
 
--- where nothing is on top, nothing is free
-pub none_free : (l : List ℕ) → None ≡ top_of l → length l ≡ 0
-none_free [] h = refl
-none_free (x ∷ l) h = let z : ◌≡◌ {A = ℕ} 0 1 = cc in absurd (omega arith)
+-- where something is free, something is on top
+pub some_free : (l : List ℕ) → 0 < length l → (o : Option ℕ) → o ≡ top_of l → IsSome o
+some_free [] h o e = absurd (omega arith)
+some_free (x ∷ l) h o e = subst IsSome (sym e) refl
 
 -- the datagrams after one more, which may come
 pub record Arrives (es es' : List Entry) (x : Entry) : Type 0 where
@@ -122,5 +124,5 @@ pub same_state : (s : State) {ws ws' : List Waiting} {l l' : List ℕ} {f f' : C
 same_state s a b c = λ i. with_waiting s (a i) (b i) (c i)
 
 -- an answer by another name of its outcome
-pub answered_as : {e f : Endpoint} {u v : Supplied} {out out' : List ℕ} {k k' : Close} {d : Datagram} {r : Handled} {o p : Outcome} → o ≡ p → Answered e f u v out out' k k' d r p → Answered e f u v out out' k k' d r o
+pub answered_as : {e f : View} {u v : Supplied} {out out' : List ℕ} {k k' : Close} {d : Datagram} {r : Result Handled Cause} {o p : Outcome} → o ≡ p → Answered e f u v out out' k k' d r p → Answered e f u v out out' k k' d r o
 answered_as {e} {f} {u} {v} {out} {out'} {k} {k'} {d} {r} q a = subst (Answered e f u v out out' k k' d r) (sym q) a

@@ -21,22 +21,23 @@ use Rattle.index.specs.declared.target.InitialEvent.TheVariants.{Failed}
 use Rattle.index.specs.Changes.{Changed, present}
 use Rattle.index.specs.Entries.{entry_after}
 use Rattle.index.specs.Routes.{initial_of, target_of}
-use Rattle.endpoint.specs.declared.endpoint.Endpoint.{Endpoint}
+use Rattle.endpoint.specs.declared.endpoint.Ready.{Ready}
 use Rattle.endpoint.specs.declared.handled.HandedBack.{HandedBack}
+use Rattle.endpoint.specs.State.{View}
 use Rattle.endpoint.specs.Ignoring.{first_brought, Ignored}
 use Rattle.endpoint.proofs.Arriving.{initial_in, initial_changed}
 
 -- ## The attempt that is brought
 
 -- the waiting attempt that the host brings, if it is one of this endpoint's
-abbrev pub waits : Endpoint → Attempt → Option Waiting
+abbrev pub waits : Ready → Attempt → Option Waiting
 waits e a = cond (eqb a.number e.number) (in_slot (groups (entries e.places)) a.slot) None
 
 -- what the code finds is the first datagram of the attempt that is brought
-brought_first : (e : Endpoint) (a : Attempt) → e.ready ≡ true → first_brought e a ≡ recorded (first_in (waits e a))
-brought_first e a r =
+brought_first : (e : Ready) (a : Attempt) → first_brought e a ≡ recorded (first_in (waits e a))
+brought_first e a =
     let es = entries e.places in
-    ap (λ o. cond (eqb a.number e.number) o None) (sym (lead_first a.slot es (e.proper r)) ∙ ap recorded (lead_in a.slot (groups es)))
+    ap (λ o. cond (eqb a.number e.number) o None) (sym (lead_first a.slot es e.proper) ∙ ap recorded (lead_in a.slot (groups es)))
     ∙ push (eqb a.number e.number) (in_slot (groups es) a.slot)
   where
     push : (b : Bool) (o : Option Waiting) → cond b (recorded (first_in o)) None ≡ recorded (first_in (cond b o None))
@@ -44,15 +45,15 @@ brought_first e a r =
     push false o = refl
 
 -- where the code finds no first datagram, no attempt is brought
-pub brought_none : (e : Endpoint) (a : Attempt) → e.ready ≡ true → None ≡ first_brought e a → waits e a ≡ None
-brought_none e a r h = back (waits e a) (h ∙ brought_first e a r)
+pub brought_none : (e : Ready) (a : Attempt) → None ≡ first_brought e a → waits e a ≡ None
+brought_none e a h = back (waits e a) (h ∙ brought_first e a)
   where
     back : (o : Option Waiting) → None ≡ recorded (first_in o) → o ≡ None
     back None k = refl
     back (Some w) k = let z : ◌≡◌ {A = ℕ} 0 1 = cc in absurd (omega arith)
 
 -- the attempt that is brought waits in a slot, and its first datagram bears the identifier x
-pub record Brings (e : Endpoint) (a : Attempt) (x : ConnectionId) (slot : ℕ) : Type 0 where
+pub record Brings (e : Ready) (a : Attempt) (x : ConnectionId) (slot : ℕ) : Type 0 where
   pub attempt : Waiting
   pub is : waits e a ≡ Some attempt
   pub there : in_slot (groups (entries e.places)) slot ≡ Some attempt
@@ -61,8 +62,8 @@ pub record Brings (e : Endpoint) (a : Attempt) (x : ConnectionId) (slot : ℕ) :
   pub dst : x ≡ attempt.first.dst
 
 -- where the code finds a first datagram, its attempt is brought
-pub brings : (e : Endpoint) (a : Attempt) (d : Datagram) (slot : ℕ) → e.ready ≡ true → slot ≡ a.slot → Some d ≡ first_brought e a → Brings e a d.dst_cid slot
-brings e a d slot r same h = from (waits e a) refl (h ∙ brought_first e a r)
+pub brings : (e : Ready) (a : Attempt) (d : Datagram) (slot : ℕ) → slot ≡ a.slot → Some d ≡ first_brought e a → Brings e a d.dst_cid slot
+brings e a d slot same h = from (waits e a) refl (h ∙ brought_first e a)
   where
     under : (b : Bool) (o : Option Waiting) (w : Waiting) → cond b o None ≡ Some w → o ≡ Some w
     under true o w k = k
@@ -102,10 +103,10 @@ attempt_there slot None h = absurd (both_ways false refl h)
 attempt_there slot (Some t) h = refl
 
 -- an attempt that fails takes its entry along
-pub leaves : (e : Endpoint) (t : List (Slot ConnectionId RouteDatagramTo)) (n : ℕ) (a : Attempt) (x : ConnectionId) (slot : ℕ) → e.ready ≡ true → (b : Brings e a x slot)
+pub leaves : (e : Ready) (t : List (Slot ConnectionId RouteDatagramTo)) (n : ℕ) (a : Attempt) (x : ConnectionId) (slot : ℕ) → (b : Brings e a x slot)
     → Changed e.index.connection_ids_initial.slots.now t e.index.connection_ids_initial.count n x (entry_after (lookup same_id e.index.connection_ids_initial.slots.now x) Failed)
     → Left e.index.connection_ids_initial.slots.now t e.index.connection_ids_initial.count n b.attempt.first.dst
-leaves e t n a x slot r b h =
+leaves e t n a x slot b h =
     let s = e.index.connection_ids_initial.slots.now in
     let m = e.index.connection_ids_initial.count in
     let l = lookup same_id s in
@@ -118,7 +119,7 @@ leaves e t n a x slot r b h =
       count = elim (cases_Bool (empty y)) [
         | inl p ↦ omega (arith, g.kept p, cond-true {A = ℕ} (empty y) 0 1 p)
         | inr f ↦
-            let p = attempt_there slot (l y) (named_entry (initial_of e.index) (groups (entries e.places)) slot d (e.named r) b.leads f) in
+            let p = attempt_there slot (l y) (named_entry (initial_of e.index) (groups (entries e.places)) slot d e.named b.leads f) in
             omega (arith, g.count f, p, ap present z, cond-false {A = ℕ} (empty y) 0 1 f)
       ];
     }
@@ -126,5 +127,5 @@ leaves e t n a x slot r b h =
 -- ## Outcomes that are the same
 
 -- what `ignore` answers, by another name of its outcome
-pub ignored_as : {A : Type 0} {e f : Endpoint} {a : Attempt} {r : Result A HandedBack} {o p : Outcome} → o ≡ p → Ignored e f a r p → Ignored e f a r o
+pub ignored_as : {A : Type 0} {e f : View} {a : Attempt} {r : Result A HandedBack} {o p : Outcome} → o ≡ p → Ignored e f a r p → Ignored e f a r o
 ignored_as {A} {e} {f} {a} {r} q i = subst (Ignored e f a r) (sym q) i

@@ -58,3 +58,7 @@ no_conns ms dead = fun_ext (λ h. ap conn_of (at h))
 -- a cleared table has no entries
 pub no_entries : {K V : Type 0} (same : K → K → Bool) (s : List (Slot K V)) → Cleared s → lookup same s ≡ (λ k. None)
 no_entries same s clear = fun_ext (λ k. lookup_absent same s k (λ j h. ap (answer same k) (clear j h)))
+
+-- a map without entries
+abbrev pub none : {K V : Type 0} → K → Option V
+none k = None

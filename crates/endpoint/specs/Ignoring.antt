@@ -7,12 +7,12 @@ use Rattle.places.specs.Entries.{first_of}
 use Rattle.places.specs.Held.{entries}
 use Rattle.model.specs.Records.{Answer, refused, ignored}
 use Rattle.model.specs.Endpoint.{Outcome}
-use Rattle.endpoint.specs.declared.endpoint.Endpoint.{Endpoint}
+use Rattle.endpoint.specs.declared.endpoint.Ready.{Ready}
 use Rattle.endpoint.specs.declared.handled.HandedBack.{HandedBack}
-use Rattle.endpoint.specs.State.{state_of, Frame}
+use Rattle.endpoint.specs.State.{View, Frame}
 
 -- the first datagram of the attempt that is brought, if it waits here
-abbrev pub first_brought : Endpoint → Attempt → Option Datagram
+abbrev pub first_brought : Ready → Attempt → Option Datagram
 first_brought e a = cond (a.number == e.number) (first_of (entries e.places) a.slot) None
 
 -- what `ignore` answers: the attempt is spent, or why it is not
@@ -26,8 +26,8 @@ Back a (Ok x) = Unit {0}
 Back a (Err b) = b.attempt ≡ a
 
 -- the call had the outcome o: its answer, what it hands back, and the state
-pub record Ignored {A : Type 0} (e f : Endpoint) (a : Attempt) (r : Result A HandedBack) (o : Outcome) : Type 0 where
+pub record Ignored {A : Type 0} (e f : View) (a : Attempt) (r : Result A HandedBack) (o : Outcome) : Type 0 where
   pub answer : ignored_of r ≡ o.answer
   pub back : Back a r
-  pub state : state_of f ≡ o.state
+  pub state : f.state ≡ o.state
   pub frame : Frame e f

@@ -2,4 +2,3 @@ pub mod State
 pub mod Answers
 pub mod Ignoring
 pub mod SetUps
-pub mod Parts

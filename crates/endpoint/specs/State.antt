@@ -1,5 +1,6 @@
 -- What an endpoint means: its state and its configuration.
-use Rattle.std.specs.Prelude.{◌≡◌}
+use Rattle.std.specs.Prelude.{◌≡◌, ℕ, Bool, true, false, Ok, Err, Result}
+use Rattle.records.specs.declared.config.Settings.{Settings}
 use Rattle.records.specs.Ids.{same_id}
 use Rattle.records.specs.Keys.{same_pair, same_sender}
 use Rattle.table.specs.Slots.{lookup}
@@ -9,12 +10,14 @@ use Rattle.places.specs.Held.{entries, width}
 use Rattle.waiting.specs.Groups.{groups}
 use Rattle.index.specs.Conns.{conns_of}
 use Rattle.index.specs.Routes.{initial_of}
-use Rattle.model.specs.Endpoint.{State, Config, Supply}
+use Rattle.model.specs.Endpoint.{State, Config, Supply, new_state}
 use Rattle.endpoint.specs.declared.endpoint.Endpoint.{Endpoint}
+use Rattle.endpoint.specs.declared.endpoint.Ready.{Ready}
+use Rattle.endpoint.specs.declared.endpoint.Refused.{Refused}
 
 -- the state that the memory holds
-abbrev pub state_of : Endpoint → State
-state_of e = record {
+abbrev pub state_in : Ready → State
+state_in e = record {
   conns = conns_of e.connections.items.now;
   free_handles = free_list e.handles;
   ids = lookup same_id e.index.connection_ids.slots.now;
@@ -26,17 +29,38 @@ state_of e = record {
   last_reset = e.last_stateless_reset;
 }
 
+-- what contracts see of an endpoint: whether its set-up was taken, what it was set up with, and its state
+pub record View : Type 0 where
+  pub ready : Bool
+  pub settings : Settings
+  pub number : ℕ
+  pub width : ℕ
+  pub state : State
+
+-- an endpoint whose set-up was taken
+abbrev pub view_of : Ready → View
+view_of e = record { ready = true; settings = e.settings; number = e.number; width = width e.places; state = state_in e }
+
+-- an endpoint, its set-up taken or refused; a refused one has nothing
+abbrev pub view_as : Result Ready Refused → View
+view_as (Ok e) = view_of e
+view_as (Err x) = record { ready = false; settings = x.settings; number = x.number; width = 0; state = new_state }
+
+-- any endpoint
+abbrev pub view : Endpoint → View
+view e = view_as e.ready
+
 -- what the endpoint is set up with, at these suppliers
-abbrev pub config_of : Endpoint → Supplied → Config
-config_of e u = record { settings = e.settings; places = width e.places; number = e.number; len = u.generator.len; door = u.door }
+abbrev pub config_of : View → Supplied → Config
+config_of e u = record { settings = e.settings; places = e.width; number = e.number; len = u.generator.len; door = u.door }
 
 -- what the suppliers give next
 abbrev pub supply_of : Supplied → Supply
 supply_of u = record { next_id = u.generator.draw; next_byte = u.source; valid = u.generator.valid 0 }
 
 -- what no call changes
-pub record Frame (e f : Endpoint) : Type 0 where
+pub record Frame (e f : View) : Type 0 where
   pub ready : f.ready ≡ e.ready
   pub settings : f.settings ≡ e.settings
   pub number : f.number ≡ e.number
-  pub width : width f.places ≡ width e.places
+  pub width : f.width ≡ e.width

@@ -25,8 +25,13 @@ mod stray;
 /// The server endpoint over its given memory.
 #[derive(Drop)]
 pub struct Endpoint<'a> {
-    /// Whether the set-up was taken; if not, every call is refused by 2.
-    ready: bool,
+    /// What it serves with; if the set-up was refused, every call is refused by 2.
+    ready: Result<Ready<'a>, Refused>,
+}
+
+/// An endpoint whose set-up was taken.
+#[derive(Drop)]
+struct Ready<'a> {
     settings: Settings,
     number: u32,
     last_stateless_reset: Option<u64>,
@@ -38,15 +43,22 @@ pub struct Endpoint<'a> {
     /// The free handles for connections.
     handles: FreeList<'a>,
     index: ConnectionIndex<'a>,
-    ghost few_incoming: { ready ≡ true → settings.max_incoming ≤ 64 },
-    ghost roomy: { ready ≡ true → 192 < length index.connection_ids_initial.slots.now },
-    ghost all_connections: { ready ≡ true → length connections.items.now ≡ 128 },
-    ghost all_slots: { ready ≡ true → length slots.items.now ≡ 64 },
-    ghost proper: { ready ≡ true → proper (entries places) ≡ true },
-    ghost shared: { ready ≡ true → slots.used + length (groups (entries places)) ≡ 64 },
-    ghost few_entries: { ready ≡ true → index.connection_ids_initial.count ≤ entered (groups (entries places)) + sum_by entered_by connections.items.now },
-    ghost once: { ready ≡ true → (s : ℕ) → sum_by (is_slot s) (free_list slots) + holding s (groups (entries places)) ≤ 1 },
-    ghost named: { ready ≡ true → (s : ℕ) → goes (initial_of index) s (lead (groups (entries places)) s) ≡ true },
-    ghost pointed: { ready ≡ true → (k : ConnectionId) → returns_to (groups (entries places)) k (initial_of index k) ≡ true },
-    ghost no_empty: { ready ≡ true → (k : ConnectionId) → clear_at (initial_of index) k ≡ true },
+    ghost few_incoming: { settings.max_incoming ≤ 64 },
+    ghost roomy: { 192 < length index.connection_ids_initial.slots.now },
+    ghost all_connections: { length connections.items.now ≡ 128 },
+    ghost all_slots: { length slots.items.now ≡ 64 },
+    ghost proper: { proper (entries places) ≡ true },
+    ghost shared: { slots.used + length (groups (entries places)) ≡ 64 },
+    ghost few_entries: { index.connection_ids_initial.count ≤ entered (groups (entries places)) + sum_by entered_by connections.items.now },
+    ghost once: { (s : ℕ) → sum_by (is_slot s) (free_list slots) + holding s (groups (entries places)) ≤ 1 },
+    ghost named: { (s : ℕ) → goes (initial_of index) s (lead (groups (entries places)) s) ≡ true },
+    ghost pointed: { (k : ConnectionId) → returns_to (groups (entries places)) k (initial_of index k) ≡ true },
+    ghost no_empty: { (k : ConnectionId) → clear_at (initial_of index) k ≡ true },
+}
+
+/// What a set-up that was refused asked for.
+#[derive(Drop)]
+struct Refused {
+    settings: Settings,
+    number: u32,
 }

@@ -2,10 +2,8 @@ use records::cause::Cause;
 use records::incoming::Attempt;
 use supply::answers::Opening;
 
-/// What `handle` answers.
+/// What `handle` answers, unless nothing is done or the datagram is dropped.
 pub enum Handled {
-    /// Nothing is done, or the datagram is dropped: why.
-    Refused(Cause),
     /// The datagram is for the connection of this handle.
     Delivered(u32),
     /// The datagram waits for the attempt in this slot.
@@ -18,7 +16,7 @@ pub enum Handled {
     Reset(usize),
 }
 
-/// What `ignore` answers when it does nothing: why, and the attempt.
+/// Why `ignore` does nothing, and the attempt.
 pub struct HandedBack {
     pub cause: Cause,
     pub attempt: Attempt,

@@ -6,4 +6,3 @@ pub mod handled;
 pub mod input;
 pub mod limits;
 pub mod memory;
-pub mod parts;

@@ -1,14 +1,12 @@
 ghost use Rattle.std.specs.Prelude.{◌≡◌, ℕ, ◌≤◌, true, List, length, None};
-ghost use Rattle.std.specs.Option.{option_map};
-ghost use Rattle.records.specs.Causes.{cause_number};
 ghost use Rattle.records.specs.Received.{seen};
 ghost use Rattle.supply.specs.Meaning.{spent};
 ghost use Rattle.model.specs.Endpoint.{first_cause};
 ghost use Rattle.model.specs.Calls.{first_causes, first_packet, close_to};
-ghost use Rattle.endpoint.specs.State.{state_of, config_of, supply_of};
-ghost use Rattle.endpoint.specs.Answers.{Answered};
+ghost use Rattle.endpoint.specs.State.{state_in, view_of, config_of, supply_of};
+ghost use Rattle.endpoint.specs.Answers.{Answered, cause_in};
 
-use crate::endpoint::Endpoint;
+use crate::endpoint::Ready;
 use crate::handled::Handled;
 use crate::limits::bad_length;
 use records::cause::Cause;
@@ -37,25 +35,24 @@ fn initial_close<S: Supplies>(supplies: &mut S, code: u64, received: &Received, 
     };
 }
 
-impl<'a> Endpoint<'a> {
-    /// Why an unrouted Initial is dropped before it is looked into, if it is.
-    fn first_cause<S: Supplies>(&self, supplies: &S, received: &Received) -> Option<Cause>
-        requires { self.now.ready ≡ true }
-        ensures { option_map cause_number result ≡ first_cause (first_causes (config_of self.now (S.all supplies.now)) (state_of self.now) (seen received.now)) }
+impl<'a> Ready<'a> {
+    /// Whether an unrouted Initial is looked into, or why it is dropped before.
+    fn check_first<S: Supplies>(&self, supplies: &S, received: &Received) -> Result<(), Cause>
+        ensures { cause_in result ≡ first_cause (first_causes (config_of (view_of self.now) (S.all supplies.now)) (state_in self.now) (seen received.now)) }
     {
         if received.bytes.len() < 1200 {
-            return Some(Cause::ShortInitial);
+            return Err(Cause::ShortInitial);
         }
         if self.saturated(supplies.cid_len()) {
-            return Some(Cause::Saturated);
+            return Err(Cause::Saturated);
         }
         if self.no_place() {
-            return Some(Cause::NoPlace);
+            return Err(Cause::NoPlace);
         }
         if !supplies.knows(received.datagram.version, &received.datagram.dst_cid) {
-            return Some(Cause::UnknownVersion);
+            return Err(Cause::UnknownVersion);
         }
-        None
+        Ok(())
     }
 
     /// What comes of an Initial that no entry routes.
@@ -64,31 +61,28 @@ impl<'a> Endpoint<'a> {
         supplies: &mut S,
         received: &Received,
         close: &mut Close,
-    ) -> Handled
-        requires ready { self.old.ready ≡ true }
+    ) -> Result<Handled, Cause>
         requires short { length received.now.bytes.now ≤ 1500 }
-        requires absent { (state_of self.old).initial received.now.datagram.now.dst_cid ≡ None }
-        ensures { (out : List ℕ) → Answered self.old self.new (S.all supplies.old) (S.all supplies.new) out out close.old close.new (seen received.now) result (first_packet (config_of self.old (S.all supplies.old)) (supply_of (S.all supplies.old)) (state_of self.old) (seen received.now)) }
+        requires absent { (state_in self.old).initial received.now.datagram.now.dst_cid ≡ None }
+        ensures { (out : List ℕ) → Answered (view_of self.old) (view_of self.new) (S.all supplies.old) (S.all supplies.new) out out close.old close.new (seen received.now) result (first_packet (config_of (view_of self.old) (S.all supplies.old)) (supply_of (S.all supplies.old)) (state_in self.old) (seen received.now)) }
     {
-        if let Some(cause) = self.first_cause(supplies, received) {
-            return Handled::Refused(cause);
-        }
+        self.check_first(supplies, received)?;
         if bad_length(
             received.datagram.dst_cid.len(),
             supplies.cid_len(),
             received.datagram.token_mark,
         ) {
             initial_close(supplies, PROTOCOL_VIOLATION, received, close);
-            return Handled::Closed;
+            return Ok(Handled::Closed);
         }
         match supplies.opens(received) {
-            Err(Unopened::Closed) => Handled::Refused(Cause::Undecodable),
-            Err(Unopened::ReservedBits) => Handled::Refused(Cause::ReservedBits),
+            Ok(opening) => Ok(self.open(received, opening)),
+            Err(Unopened::Closed) => Err(Cause::Undecodable),
+            Err(Unopened::ReservedBits) => Err(Cause::ReservedBits),
             Err(Unopened::BadToken) => {
                 initial_close(supplies, INVALID_TOKEN, received, close);
-                Handled::Closed
+                Ok(Handled::Closed)
             }
-            Ok(opening) => self.open(received, opening),
         }
     }
 }

@@ -2,7 +2,7 @@ use Rattle.std.proofs.Common.{◌≡◌, ℕ, not, ltb, leb, length, sym, ap, �
 use Rattle.std.proofs.lemmas.Bool.{cases_lt, lt-ltb, le-ltb, le-leb, lt-leb, not_from_true, not_from_false}
 use Rattle.places.specs.Held.{entries, width}
 use Rattle.waiting.proofs.Grouping.{places}
-use Rattle.endpoint.proofs.endpoint.Endpoint.no_place.Goals as goal
+use Rattle.endpoint.proofs.endpoint.Ready.no_place.Goals as goal
 
 -- two tests of one fact
 not_below : (m n : ℕ) → not (ltb m n) ≡ leb n m
@@ -16,4 +16,4 @@ pub returns : goal.returns
 returns c =
     let e = c.args.self.now in
     let es = entries e.places in
-    ap not c.has_room.ensures ∙ not_below (length es) (width e.places) ∙ ap (leb (width e.places)) (sym (places es (e.proper c.requires)))
+    ap not c.has_room.ensures ∙ not_below (length es) (width e.places) ∙ ap (leb (width e.places)) (sym (places es e.proper))

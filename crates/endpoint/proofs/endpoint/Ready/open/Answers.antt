@@ -16,34 +16,31 @@ use Rattle.waiting.proofs.Leading.{lead_none}
 use Rattle.waiting.proofs.Slots.{once_opened, once_as, top_unheld}
 use Rattle.waiting.proofs.Entered.{named_opened, pointed_opened, named_as, pointed_as, no_empty_as, no_empty_put, no_empty_tells, no_empty_told}
 use Rattle.index.specs.Routes.{initial_of}
-use Rattle.endpoint.specs.State.{state_of}
-use Rattle.endpoint.proofs.Arriving.{initial_in, enters, initial_room, none_free, arrives, same_state, answered_as}
-use Rattle.endpoint.proofs.endpoint.Endpoint.open.Goals as goal
+use Rattle.endpoint.specs.State.{state_in}
+use Rattle.endpoint.proofs.Arriving.{initial_in, enters, initial_room, some_free, arrives, same_state, answered_as}
+use Rattle.endpoint.proofs.endpoint.Ready.open.Goals as goal
 
-pub unreachable-requires : goal.unreachable-requires
-unreachable-requires c =
+-- a free slot is on top
+pub unwrap-slot-requires : goal.unwrap-slot-requires
+unwrap-slot-requires c =
     let e = c.args.self.now in
-    let r = c.requires.ready in
-    let long = free_length e.slots.items.now e.slots.used (omega (arith, e.all_slots r, e.shared r)) in
-    omega (arith, c.requires.few, e.shared r, long, none_free (free_list e.slots) c.in-None.ensures.top)
+    let long = free_length e.slots.items.now e.slots.used (omega (arith, e.all_slots, e.shared)) in
+    some_free (free_list e.slots) (omega (arith, c.requires.few, e.shared, long)) c.pop.result c.pop.ensures.top
 
 pub keep-requires : goal.keep-requires
 keep-requires c =
     let e = c.args.self.now in
-    let r = c.requires.ready in
-    record { short = c.requires.short; room = omega (arith, c.requires.room, places (entries e.places) (e.proper r)) }
+    record { short = c.requires.short; room = omega (arith, c.requires.room, places (entries e.places) e.proper) }
 
 pub set_initial-requires : goal.set_initial-requires
 set_initial-requires c =
     let e = c.args.self.now in
-    let r = c.requires.ready in
-    initial_room e r
+    initial_room e
 
 pub invariant_of-self : goal.invariant_of-self
 invariant_of-self c =
     let e = c.args.self.now in
-    let r = c.requires.ready in
-    let slot = c.in-Some.slot in
+    let slot = c.unwrap-slot.result in
     let x = c.args.received.now.datagram.now.dst_cid in
     let a = arrival slot true c.args.received.now.datagram.now c.args.received.now.bytes.now in
     let w = opened a in
@@ -54,33 +51,33 @@ invariant_of-self c =
     let f = initial_of e.index in
     let g = put f x (Some (to_attempt slot)) in
     let f' = initial_in c.set_initial.new.initial.slots.now in
-    let top = top_cons free slot c.in-Some.ensures.top in
-    let un = top_unheld free ws slot top (e.once r) in
-    let n = arrives es (entries c.keep.new.self) a c.keep.ensures.entries (e.proper r) (eq-eqb (holding slot ws) 0 un) in
+    let top = top_cons free slot (sym c.unwrap-slot.ensures ∙ c.pop.ensures.top) in
+    let un = top_unheld free ws slot top e.once in
+    let n = arrives es (entries c.keep.new.self) a c.keep.ensures.entries e.proper (eq-eqb (holding slot ws) 0 un) in
     let t = enters e.index.connection_ids_initial.slots.now c.set_initial.new.initial.slots.now e.index.connection_ids_initial.count c.set_initial.new.initial.count x slot c.set_initial.ensures.changed c.requires.absent in
     record {
       few_incoming = e.few_incoming;
-      roomy = λ _. omega (arith, c.set_initial.ensures.long, e.roomy r);
+      roomy = omega (arith, c.set_initial.ensures.long, e.roomy);
       all_connections = e.all_connections;
-      all_slots = λ _. ap length c.pop.ensures.items ∙ e.all_slots r;
-      proper = λ _. n.proper_is;
-      shared = λ _. omega (arith, c.pop.ensures.used, ap length n.groups_are, e.shared r, c.requires.few);
-      few_entries = λ _. omega (arith, t.count, ap entered n.groups_are, e.few_entries r);
-      once = λ _. once_as (drop 1 free) _ (w ∷ ws) ws' c.pop.ensures.held n.groups_are (once_opened free ws w top (e.once r));
-      named = λ _. named_as g f' (w ∷ ws) ws' t.maps n.groups_are (named_opened f ws w (e.named r) c.requires.absent);
-      pointed = λ _. pointed_as g f' (w ∷ ws) ws' t.maps n.groups_are (pointed_opened f ws w (e.pointed r) (lead_none slot ws un));
-      no_empty = λ _. no_empty_tells f' (no_empty_as g f' t.maps (no_empty_put f x (Some (to_attempt slot)) (no_empty_told f (e.no_empty r))));
+      all_slots = ap length c.pop.ensures.items ∙ e.all_slots;
+      proper = n.proper_is;
+      shared = omega (arith, c.pop.ensures.used, ap length n.groups_are, e.shared, c.requires.few);
+      few_entries = omega (arith, t.count, ap entered n.groups_are, e.few_entries);
+      once = once_as (drop 1 free) _ (w ∷ ws) ws' c.pop.ensures.held n.groups_are (once_opened free ws w top e.once);
+      named = named_as g f' (w ∷ ws) ws' t.maps n.groups_are (named_opened f ws w e.named c.requires.absent);
+      pointed = pointed_as g f' (w ∷ ws) ws' t.maps n.groups_are (pointed_opened f ws w e.pointed (lead_none slot ws un));
+      no_empty = no_empty_tells f' (no_empty_as g f' t.maps (no_empty_put f x (Some (to_attempt slot)) (no_empty_told f e.no_empty)));
     }
 
 pub returns : goal.returns
 returns c u out k =
     let e = c.args.self.now in
-    let s = state_of e in
-    let slot = c.in-Some.slot in
+    let s = state_in e in
+    let slot = c.unwrap-slot.result in
     let x = c.args.received.now.datagram.now.dst_cid in
     let a = arrival slot true c.args.received.now.datagram.now c.args.received.now.bytes.now in
     let t = enters e.index.connection_ids_initial.slots.now c.set_initial.new.initial.slots.now e.index.connection_ids_initial.count c.set_initial.new.initial.count x slot c.set_initial.ensures.changed c.requires.absent in
-    let next : next_free s.free_slots ≡ slot = ap (λ l. get_or l 0 0) (top_cons s.free_slots slot c.in-Some.ensures.top) in
+    let next : next_free s.free_slots ≡ slot = ap (λ l. get_or l 0 0) (top_cons s.free_slots slot (sym c.unwrap-slot.ensures ∙ c.pop.ensures.top)) in
     answered_as (ap (λ n. gives (opened_answer n c.args.opening) (with_opened s n (sent a))) next)
     (record {
       answer = ap (λ (y : Attempt). opened_answer y.slot c.args.opening) c.new.ensures;

@@ -16,24 +16,22 @@ use Rattle.waiting.proofs.Leading.{entered_kept}
 use Rattle.waiting.proofs.Slots.{once_kept, once_as}
 use Rattle.waiting.proofs.Entered.{named_kept, pointed_kept, named_as, pointed_as, pointed_held}
 use Rattle.index.specs.Routes.{initial_of}
-use Rattle.endpoint.specs.State.{state_of, config_of}
+use Rattle.endpoint.specs.State.{state_in, view_of, config_of}
 use Rattle.endpoint.proofs.Arriving.{arrives, same_state, answered_as}
-use Rattle.endpoint.proofs.endpoint.Endpoint.keep.Goals as goal
+use Rattle.endpoint.proofs.endpoint.Ready.keep.Goals as goal
 
 pub keep-requires : goal.keep-requires
 keep-requires c =
     let e = c.args.self.now in
-    let r = c.requires.ready in
     let es = entries e.places in
     record {
       short = c.requires.short;
-      room = omega (arith, leb-false _ _ (sym c.if-no_place.ensures), places es (e.proper r));
+      room = omega (arith, leb-false _ _ (sym c.if-no_place.ensures), places es e.proper);
     }
 
 pub invariant_of-self : goal.invariant_of-self
 invariant_of-self c =
     let e = c.args.self.now in
-    let r = c.requires.ready in
     let slot = c.args.slot in
     let x = c.args.received.now.datagram.now.dst_cid in
     let a = arrival slot false c.args.received.now.datagram.now c.args.received.now.bytes.now in
@@ -44,9 +42,9 @@ invariant_of-self c =
     let vs = map (add_kept slot d) ws in
     let free = free_list e.slots in
     let f = initial_of e.index in
-    let held = pointed_held ws x slot (f x) (e.pointed r x) (sym (ap attempt_of c.requires.entry)) in
-    let one : holding slot ws ≡ 1 = omega (arith, held, e.once r slot) in
-    let n = arrives es (entries c.keep.new.self) a c.keep.ensures.entries (e.proper r) (eq-eqb (holding slot ws) 1 one) in
+    let held = pointed_held ws x slot (f x) (e.pointed x) (sym (ap attempt_of c.requires.entry)) in
+    let one : holding slot ws ≡ 1 = omega (arith, held, e.once slot) in
+    let n = arrives es (entries c.keep.new.self) a c.keep.ensures.entries e.proper (eq-eqb (holding slot ws) 1 one) in
     let long = ap length n.groups_are ∙ length-map ws (add_kept slot d) in
     let fewer = ap entered n.groups_are ∙ entered_kept slot d ws in
     record {
@@ -54,23 +52,23 @@ invariant_of-self c =
       roomy = e.roomy;
       all_connections = e.all_connections;
       all_slots = e.all_slots;
-      proper = λ _. n.proper_is;
-      shared = λ _. omega (arith, long, e.shared r);
-      few_entries = λ _. omega (arith, fewer, e.few_entries r);
-      once = λ _. once_as free free vs ws' refl n.groups_are (once_kept free ws slot d (e.once r));
-      named = λ _. named_as f f vs ws' refl n.groups_are (named_kept f ws slot d (e.named r));
-      pointed = λ _. pointed_as f f vs ws' refl n.groups_are (pointed_kept f ws slot d (e.pointed r));
+      proper = n.proper_is;
+      shared = omega (arith, long, e.shared);
+      few_entries = omega (arith, fewer, e.few_entries);
+      once = once_as free free vs ws' refl n.groups_are (once_kept free ws slot d e.once);
+      named = named_as f f vs ws' refl n.groups_are (named_kept f ws slot d e.named);
+      pointed = pointed_as f f vs ws' refl n.groups_are (pointed_kept f ws slot d e.pointed);
       no_empty = e.no_empty;
     }
 
 pub returns : goal.returns
 returns c u out k =
     let e = c.args.self.now in
-    let s = state_of e in
+    let s = state_in e in
     let slot = c.args.slot in
     let a = arrival slot false c.args.received.now.datagram.now c.args.received.now.bytes.now in
     let d = sent a in
-    let g = config_of e u in
+    let g = config_of (view_of e) u in
     let q : model.keep g s d slot ≡ gives (stored slot) (with_kept s slot d) =
     ap (keep_by s d slot)
     (cond-false (too_large g s slot d) (Some 21) _ (sym c.if-too_large.ensures) ∙ cond-false (no_place g s) (Some 22) None (sym c.if-no_place.ensures)) in
