@@ -5,15 +5,13 @@ use Rattle.std.proofs.lemmas.Bool.{cases_eq, cases_Bool, and_parts, leb-true, lt
 use Rattle.records.specs.declared.incoming.Attempt.{Attempt}
 use Rattle.supply.specs.Meaning.{Supplied, spent, token_of}
 use Rattle.supply.proofs.Spending.{spent_add, spent_none}
-use Rattle.places.specs.Held.{width}
 use Rattle.model.specs.Records.{written}
 use Rattle.model.specs.Endpoint.{Outcome, is_none, new_state}
 use Rattle.model.specs.Calls.{sealed}
 use Rattle.model.specs.Runs as runs
 use Rattle.model.specs.Runs.{after, history}
 use Rattle.resets.specs.Bytes.{over}
-use Rattle.endpoint.specs.declared.endpoint.Endpoint.{Endpoint}
-use Rattle.endpoint.specs.State.{state_of, config_of, supply_of, Frame}
+use Rattle.endpoint.specs.State.{View, config_of, supply_of, Frame}
 use Rattle.calls.specs.declared.call.Call as called
 use Rattle.calls.specs.declared.answer.Answer as said
 use Rattle.calls.specs.declared.answer.Answer.TheVariants.{Void}
@@ -40,18 +38,18 @@ module _ (bytes : List ℕ) (calls : List called.Call) (blocks : List (List ℕ)
   this_answer h k = ap₂ (λ x y. answer_to bytes (get_or calls i no_call) x y) (get_or-set_same blocks i b [] h) (get_or-set_same answers i r Void k)
 
 -- the code's endpoint and suppliers are those of the definitions after the calls that were made
-pub record Fitting (E : runs.Endpoint) (u : Supplied) (w : runs.World) (e : Endpoint) (v : Supplied) : Type 0 where
+pub record Fitting (E : runs.Endpoint) (u : Supplied) (w : runs.World) (e : View) (v : Supplied) : Type 0 where
   pub settings : e.settings ≡ E.setup.settings
-  pub places : width e.places ≡ E.setup.places
+  pub places : e.width ≡ E.setup.places
   pub number : e.number ≡ E.setup.number
   pub generator : E.setup.generator ≡ u.generator
   pub source : E.setup.source ≡ u.source
   pub door : E.setup.door ≡ u.door
   pub signer : E.signer ≡ u.signer
   pub drawn : v ≡ spent w.ids_used w.bytes_used u
-  pub state : state_of e ≡ w.state
+  pub state : e.state ≡ w.state
 
-module _ (E : runs.Endpoint) (u : Supplied) (w : runs.World) (e : Endpoint) (v : Supplied) (f : Fitting E u w e v) where
+module _ (E : runs.Endpoint) (u : Supplied) (w : runs.World) (e : View) (v : Supplied) (f : Fitting E u w e v) where
   same_config : config_of e v ≡ runs.config E.setup
   same_config = λ j. record {
     settings = f.settings j;
@@ -76,11 +74,11 @@ module _ (E : runs.Endpoint) (u : Supplied) (w : runs.World) (e : Endpoint) (v :
   pub same_token : token_of v.signer ≡ token_of E.signer
   same_token = ap token_of (ap (λ x. x.signer) f.drawn ∙ sym f.signer)
 
-pub same_frames : (e f g : Endpoint) → Frame e f → Frame f g → Frame e g
+pub same_frames : (e f g : View) → Frame e f → Frame f g → Frame e g
 same_frames e f g a b = record { ready = b.ready ∙ a.ready; settings = b.settings ∙ a.settings; number = b.number ∙ a.number; width = b.width ∙ a.width }
 
-pub fitting : (E : runs.Endpoint) (e f : Endpoint) (u v : Supplied) (w : runs.World) → Built E e.settings (width e.places) e.number u → Frame e f →
-    v ≡ spent w.ids_used w.bytes_used u → state_of f ≡ w.state → Fitting E u w f v
+pub fitting : (E : runs.Endpoint) (e f : View) (u v : Supplied) (w : runs.World) → Built E e.settings e.width e.number u → Frame e f →
+    v ≡ spent w.ids_used w.bytes_used u → f.state ≡ w.state → Fitting E u w f v
 fitting E e f u v w built frame drawn state = record {
   settings = frame.settings ∙ sym built.settings;
   places = frame.width ∙ sym built.places;
@@ -93,18 +91,18 @@ fitting E e f u v w built frame drawn state = record {
   state = state;
 }
 
-pub holds_at : (E : runs.Endpoint) (e : Endpoint) (pool : List (Option Attempt)) (slots : ℕ → Option ℕ) → e.number ≡ E.setup.number → Holds E.setup.number pool slots → Holds e.number pool slots
+pub holds_at : (E : runs.Endpoint) (e : View) (pool : List (Option Attempt)) (slots : ℕ → Option ℕ) → e.number ≡ E.setup.number → Holds E.setup.number pool slots → Holds e.number pool slots
 holds_at E e pool slots is held = subst (λ n. Holds n pool slots) (sym is) held
 
 -- ## One call more
 
 -- where a list stands after its first i calls
-pub record Progress (E : runs.Endpoint) (bytes : List ℕ) (calls : List called.Call) (i : ℕ) (e : Endpoint) (u v : Supplied) (pool : List (Option Attempt))
+pub record Progress (E : runs.Endpoint) (bytes : List ℕ) (calls : List called.Call) (i : ℕ) (e : View) (u v : Supplied) (pool : List (Option Attempt))
     (blocks blocks' : List (List ℕ)) (answers answers' : List said.Answer) : Type 0 where
   pub ran : Ran E bytes calls i u v pool blocks blocks' answers answers'
-  pub state : state_of e ≡ (world_so E bytes calls i).state
+  pub state : e.state ≡ (world_so E bytes calls i).state
 
-module _ (E : runs.Endpoint) (bytes : List ℕ) (calls : List called.Call) (i : ℕ) (e f : Endpoint) (u v v' : Supplied) (pool pool' : List (Option Attempt))
+module _ (E : runs.Endpoint) (bytes : List ℕ) (calls : List called.Call) (i : ℕ) (e f : View) (u v v' : Supplied) (pool pool' : List (Option Attempt))
     (blocks blocks' : List (List ℕ)) (answers answers' : List said.Answer) (b : List ℕ) (r : said.Answer)
     (fit : Fitting E u (world_so E bytes calls i) e v) (ran : Ran E bytes calls i u v pool blocks blocks' answers answers')
     (in_blocks : i < length blocks') (in_answers : i < length answers')
@@ -215,8 +213,8 @@ lent n pool blocks answers e =
     let c = and_parts (leb n answers) (all_none pool (length pool)) b.1 in
     record { places = leb-true n (length pool) a.0; outputs = leb-true n blocks b.0; records = leb-true n answers c.0; clear = pool_empty pool c.1 }
 
-pub progress_none : (E : runs.Endpoint) (bytes : List ℕ) (calls : List called.Call) (e : Endpoint) (u : Supplied) (pool : List (Option Attempt))
-    (blocks : List (List ℕ)) (answers : List said.Answer) → state_of e ≡ new_state → ((k : ℕ) → get_or pool k None ≡ None) →
+pub progress_none : (E : runs.Endpoint) (bytes : List ℕ) (calls : List called.Call) (e : View) (u : Supplied) (pool : List (Option Attempt))
+    (blocks : List (List ℕ)) (answers : List said.Answer) → e.state ≡ new_state → ((k : ℕ) → get_or pool k None ≡ None) →
     Progress E bytes calls 0 e u u pool blocks blocks answers answers
 unfolding after history
 progress_none E bytes calls e u pool blocks answers fresh clear = record {

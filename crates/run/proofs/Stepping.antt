@@ -2,6 +2,7 @@
 use Rattle.std.proofs.Common.{◌≡◌, ℕ, zero, suc, ◌<◌, Bool, true, false, cond, ◌&&◌, eqb, leb, List, length, get_or, take, drop, set, Some, None, Ok, Err, Option, Result, sym, refl, ap, ◌∙◌, subst, inl, inr, arith}
 use Rattle.std.proofs.lemmas.List.{get_or-set_same, get_or-set_other, get_or_past, set-set, set-get_or, length-set}
 use Rattle.std.proofs.lemmas.Bool.{cond-true, cond-false, cond_both, cases_eq, cases_lt, eqb-true, eqb-false, ne_eqb, and_left, and_right}
+use Rattle.records.specs.declared.cause.Cause.{Cause}
 use Rattle.records.specs.declared.packet.Close.{Close}
 use Rattle.records.specs.declared.incoming.Attempt.{Attempt}
 use Rattle.records.specs.Ids.{no_id}
@@ -15,11 +16,10 @@ use Rattle.model.specs.Endpoint.{Outcome, Waiting, is_none}
 use Rattle.model.specs.Calls.{gives, sealed, handle, fits, ignore, ignore_of, brought}
 use Rattle.model.specs.Runs as runs
 use Rattle.model.specs.Runs.{outcome_of, opened_slot, put_slot, slots_after, spent_by, in_hand, incoming, with_attempt}
-use Rattle.endpoint.specs.declared.endpoint.Endpoint.{Endpoint}
 use Rattle.endpoint.specs.declared.handled.Handled.{Handled}
 use Rattle.endpoint.specs.declared.handled.Handled.TheVariants as handled
 use Rattle.endpoint.specs.declared.handled.HandedBack.{HandedBack}
-use Rattle.endpoint.specs.State.{state_of, config_of, supply_of, Frame}
+use Rattle.endpoint.specs.State.{View, config_of, supply_of, Frame}
 use Rattle.endpoint.specs.Answers.{answer_of, Numbered, Answered}
 use Rattle.endpoint.specs.Ignoring.{Ignored, ignored_of, Back}
 use Rattle.endpoint.proofs.Answering.{same_frame}
@@ -118,53 +118,53 @@ put_back p k b took there put same =
 -- ## `handle`
 
 -- a new attempt at i changes no place past i
-pub past_pooled : (r : Handled) (p : List (Option Attempt)) (i : ℕ) {p' : List (Option Attempt)} → p' ≡ pooled r p i → EmptyPast i p p'
+pub past_pooled : (r : Result Handled Cause) (p : List (Option Attempt)) (i : ℕ) {p' : List (Option Attempt)} → p' ≡ pooled r p i → EmptyPast i p p'
 past_pooled r p i goes k h e = ap (λ q. get_or q k None) goes ∙ stays r
   where
-    stays : (x : Handled) → get_or (pooled x p i) k None ≡ None
-    stays (handled.Refused c) = e
-    stays (handled.Delivered n) = e
-    stays (handled.Kept s) = e
-    stays (handled.Opened a o) = get_or-set_other p i k (Some a) None (λ q. omega (arith, q, h)) ∙ e
-    stays handled.Closed = e
-    stays (handled.Reset n) = e
+    stays : (x : Result Handled Cause) → get_or (pooled x p i) k None ≡ None
+    stays (Err c) = e
+    stays (Ok (handled.Delivered n)) = e
+    stays (Ok (handled.Kept s)) = e
+    stays (Ok (handled.Opened a o)) = get_or-set_other p i k (Some a) None (λ q. omega (arith, q, h)) ∙ e
+    stays (Ok handled.Closed) = e
+    stays (Ok (handled.Reset n)) = e
 
 -- the pool after an answer holds the slot that it opens
 holds_pooled : (number : ℕ) (p : List (Option Attempt)) (i : ℕ) (slots : ℕ → Option ℕ) → i < length p → Holds number p slots →
-    (r : Handled) → Numbered number r → (d : Datagram) (out : List ℕ) (k : Close) → Holds number (pooled r p i) (put_slot slots i (opened_slot (answer_of d out k r)))
-holds_pooled number p i slots w H (handled.Refused c) is d out k = H
-holds_pooled number p i slots w H (handled.Delivered h) is d out k = H
-holds_pooled number p i slots w H (handled.Kept s) is d out k = H
-holds_pooled number p i slots w H (handled.Opened a o) is d out k = holds_put number p i slots a is w H
-holds_pooled number p i slots w H handled.Closed is d out k = H
-holds_pooled number p i slots w H (handled.Reset n) is d out k = H
+    (r : Result Handled Cause) → Numbered number r → (d : Datagram) (out : List ℕ) (k : Close) → Holds number (pooled r p i) (put_slot slots i (opened_slot (answer_of d out k r)))
+holds_pooled number p i slots w H (Err c) is d out k = H
+holds_pooled number p i slots w H (Ok (handled.Delivered h)) is d out k = H
+holds_pooled number p i slots w H (Ok (handled.Kept s)) is d out k = H
+holds_pooled number p i slots w H (Ok (handled.Opened a o)) is d out k = holds_put number p i slots a is w H
+holds_pooled number p i slots w H (Ok handled.Closed) is d out k = H
+holds_pooled number p i slots w H (Ok (handled.Reset n)) is d out k = H
 
 -- the plain value says what the answer says
-noted_as : (bytes : List ℕ) (a : Arrival) (out : List ℕ) (k : Close) (r : Handled) → answer_to bytes (Handle a) out (noted r k) ≡ answer_of (arrived bytes a) out k r
-noted_as bytes a out k (handled.Refused c) = refl
-noted_as bytes a out k (handled.Delivered h) = refl
-noted_as bytes a out k (handled.Kept s) = refl
-noted_as bytes a out k (handled.Opened b o) = refl
-noted_as bytes a out k handled.Closed = refl
-noted_as bytes a out k (handled.Reset n) = refl
+noted_as : (bytes : List ℕ) (a : Arrival) (out : List ℕ) (k : Close) (r : Result Handled Cause) → answer_to bytes (Handle a) out (noted r k) ≡ answer_of (arrived bytes a) out k r
+noted_as bytes a out k (Err c) = refl
+noted_as bytes a out k (Ok (handled.Delivered h)) = refl
+noted_as bytes a out k (Ok (handled.Kept s)) = refl
+noted_as bytes a out k (Ok (handled.Opened b o)) = refl
+noted_as bytes a out k (Ok handled.Closed) = refl
+noted_as bytes a out k (Ok (handled.Reset n)) = refl
 
 -- and a refusal is the same whatever the block
-refusal_noted : (bytes : List ℕ) (a : Arrival) (d : Datagram) (out block : List ℕ) (k : Close) (n : ℕ) (r : Handled) → answer_of d out k r ≡ refused n →
+refusal_noted : (bytes : List ℕ) (a : Arrival) (d : Datagram) (out block : List ℕ) (k : Close) (n : ℕ) (r : Result Handled Cause) → answer_of d out k r ≡ refused n →
     answer_to bytes (Handle a) block (noted r k) ≡ refused n
-refusal_noted bytes a d out block k n (handled.Refused c) e = e
-refusal_noted bytes a d out block k n (handled.Delivered h) e = e
-refusal_noted bytes a d out block k n (handled.Kept s) e = e
-refusal_noted bytes a d out block k n (handled.Opened b o) e = e
-refusal_noted bytes a d out block k n handled.Closed e = e
-refusal_noted bytes a d out block k n (handled.Reset m) e = let z : ◌≡◌ {A = ℕ} 0 1 = cc in absurd (omega arith)
+refusal_noted bytes a d out block k n (Err c) e = e
+refusal_noted bytes a d out block k n (Ok (handled.Delivered h)) e = e
+refusal_noted bytes a d out block k n (Ok (handled.Kept s)) e = e
+refusal_noted bytes a d out block k n (Ok (handled.Opened b o)) e = e
+refusal_noted bytes a d out block k n (Ok handled.Closed) e = e
+refusal_noted bytes a d out block k n (Ok (handled.Reset m)) e = let z : ◌≡◌ {A = ℕ} 0 1 = cc in absurd (omega arith)
 
 -- the datagram's bytes, a part of the list's, are `got`; the plain value is s, and the pool after it p'
-module _ (e f : Endpoint) (u v : Supplied) (out out' : List ℕ) (k k' : Close) (r : Handled) (bytes : List ℕ) (a : Arrival) (got : List ℕ)
+module _ (e f : View) (u v : Supplied) (out out' : List ℕ) (k k' : Close) (r : Result Handled Cause) (bytes : List ℕ) (a : Arrival) (got : List ℕ)
     (p p' : List (Option Attempt)) (i : ℕ) (s : said.Answer) (part : got ≡ take a.len (drop a.at bytes)) (w : i < length p)
     (says : s ≡ noted r k') (goes : p' ≡ pooled r p i) (slots : ℕ → Option ℕ) (H : Holds e.number p slots) where
   -- the outcome of the datagram with these bytes and with so much room
   abbrev came_to : List ℕ → ℕ → Outcome
-  came_to bs room = handle (config_of e u) (supply_of u) (state_of e) (datagram_of a.datagram bs) room
+  came_to bs room = handle (config_of e u) (supply_of u) e.state (datagram_of a.datagram bs) room
 
   -- the datagram with these bytes had this outcome
   abbrev As : List ℕ → Outcome → Type 0
@@ -201,7 +201,7 @@ module _ (e f : Endpoint) (u v : Supplied) (out out' : List ℕ) (k k' : Close) 
   unfolding outcome_of
   handled_short block small long A =
       let xs = take a.len (drop a.at bytes) in
-      let o = gives (refused 1) (state_of e) in
+      let o = gives (refused 1) e.state in
       let refuses : (n : ℕ) → n ≡ 1499 → came_to xs n ≡ o = λ n is. cond-false (fits (config_of e u) (arrived bytes a) n) _ _ (and_right _ _ (ap (leb 1500) is)) in
       let B : As xs o = subst (As xs) (refuses (length out) long) (subst (λ bs. As bs (came_to bs (length out))) part A) in
       subst (Stepped e f u v p p' block block bytes i (Handle a) slots s) (sym (refuses (room_of a) (cond-true a.small 1499 1500 small)))
@@ -217,16 +217,16 @@ module _ (e f : Endpoint) (u v : Supplied) (out out' : List ℕ) (k k' : Close) 
 -- ## `ignore`
 
 -- an attempt that the host does not hold: nothing is called
-pub voids : (e : Endpoint) (p p' : List (Option Attempt)) (b : code.Brought) → p' ≡ p →
+pub voids : (e : View) (p p' : List (Option Attempt)) (b : code.Brought) → p' ≡ p →
     ((slots : ℕ → Option ℕ) → Holds e.number p slots → incoming e.number slots (attempt_of b) ≡ None) → Ignores e e p p' b says.Void
 unfolding outcome_of
 voids e p p' b same none u block bytes i slots H =
     subst (Stepped e e u u p p' block block bytes i (Ignore b) slots says.Void)
-    (sym (ap (with_attempt (state_of e) (λ a. ignore (config_of e u) (state_of e) a)) (none slots H)))
+    (sym (ap (with_attempt e.state (λ a. ignore (config_of e u) e.state a)) (none slots H)))
     (record { answer = refl; state = refl; drawn = sym (spent_none u); pool = subst (λ q. Holds e.number q slots) (sym same) H; block = refl; frame = same_frame e })
 
 -- as where no call of the list opened one, or it is spent
-pub void_opened : (e : Endpoint) (p p' : List (Option Attempt)) (k : ℕ) → p' ≡ p → None ≡ get_or p k None → Ignores e e p p' (Opened k) says.Void
+pub void_opened : (e : View) (p p' : List (Option Attempt)) (k : ℕ) → p' ≡ p → None ≡ get_or p k None → Ignores e e p p' (Opened k) says.Void
 void_opened e p p' k same none = voids e p p' (Opened k) same (λ slots H. sym (H k) ∙ sym none)
 
 -- what `ignore` says, as a plain value
@@ -239,15 +239,15 @@ said_as : {A : Type 0} (bytes : List ℕ) (b : code.Brought) (block : List ℕ) 
 said_as bytes b block (Ok x) = refl
 said_as bytes b block (Err h) = refl
 
-module _ {A : Type 0} (e f : Endpoint) (p p' : List (Option Attempt)) (b : code.Brought) (a : Attempt) (r : Result A HandedBack) where
+module _ {A : Type 0} (e f : View) (p p' : List (Option Attempt)) (b : code.Brought) (a : Attempt) (r : Result A HandedBack) where
   -- the pool after it
   abbrev Leaves : Type 0
-  Leaves = (i : ℕ) (slots : ℕ → Option ℕ) (m : Option Waiting) → ignored_of r ≡ (ignore_of (state_of e) m).answer → Back a r → Holds e.number p slots →
-      Holds e.number p' (slots_after slots i (runs.ignores (attempt_of b)) (ignore_of (state_of e) m).answer)
+  Leaves = (i : ℕ) (slots : ℕ → Option ℕ) (m : Option Waiting) → ignored_of r ≡ (ignore_of e.state m).answer → Back a r → Holds e.number p slots →
+      Holds e.number p' (slots_after slots i (runs.ignores (attempt_of b)) (ignore_of e.state m).answer)
 
   -- the call had its outcome, whichever attempt waits
-  ignored_by : Leaves → (u : Supplied) (block bytes : List ℕ) (i : ℕ) (slots : ℕ → Option ℕ) (m : Option Waiting) → Ignored e f a r (ignore_of (state_of e) m) →
-      Holds e.number p slots → Stepped e f u u p p' block block bytes i (Ignore b) slots (said_of r) (ignore_of (state_of e) m)
+  ignored_by : Leaves → (u : Supplied) (block bytes : List ℕ) (i : ℕ) (slots : ℕ → Option ℕ) (m : Option Waiting) → Ignored e f a r (ignore_of e.state m) →
+      Holds e.number p slots → Stepped e f u u p p' block block bytes i (Ignore b) slots (said_of r) (ignore_of e.state m)
   ignored_by L u block bytes i slots None I H = record {
     answer = said_as bytes b block r ∙ I.answer;
     state = I.state;
@@ -267,12 +267,12 @@ module _ {A : Type 0} (e f : Endpoint) (p p' : List (Option Attempt)) (b : code.
 
   -- the attempt that the host holds goes to the endpoint
   pub ignores : ((slots : ℕ → Option ℕ) → Holds e.number p slots → incoming e.number slots (attempt_of b) ≡ Some a) → Leaves →
-      ((u : Supplied) → Ignored e f a r (ignore (config_of e u) (state_of e) a)) → Ignores e f p p' b (said_of r)
+      ((u : Supplied) → Ignored e f a r (ignore (config_of e u) e.state a)) → Ignores e f p p' b (said_of r)
   unfolding outcome_of
   ignores some L I u block bytes i slots H =
       subst (Stepped e f u u p p' block block bytes i (Ignore b) slots (said_of r))
-      (sym (ap (with_attempt (state_of e) (λ x. ignore (config_of e u) (state_of e) x)) (some slots H)))
-      (ignored_by L u block bytes i slots (brought (config_of e u) (state_of e) a) (I u) H)
+      (sym (ap (with_attempt e.state (λ x. ignore (config_of e u) e.state x)) (some slots H)))
+      (ignored_by L u block bytes i slots (brought (config_of e u) e.state a) (I u) H)
 
 -- suppliers that give nothing
 abbrev nothing : Supplied
@@ -284,12 +284,12 @@ nothing = record {
 }
 
 -- whatever the suppliers, it leaves what no call changes
-pub ignored_frame : {A : Type 0} (e f : Endpoint) (a : Attempt) (r : Result A HandedBack) → ((u : Supplied) → Ignored e f a r (ignore (config_of e u) (state_of e) a)) → Frame e f
+pub ignored_frame : {A : Type 0} (e f : View) (a : Attempt) (r : Result A HandedBack) → ((u : Supplied) → Ignored e f a r (ignore (config_of e u) e.state a)) → Frame e f
 ignored_frame e f a r I = (I nothing).frame
 
 -- one that a call of the list opened is spent
-pub ignores_opened : {A : Type 0} (e f : Endpoint) (p p' : List (Option Attempt)) (k : ℕ) (a : Attempt) (x : A) → k < length p → Some a ≡ get_or p k None → p' ≡ set p k None →
-    ((u : Supplied) → Ignored e f a (Ok x) (ignore (config_of e u) (state_of e) a)) → Ignores e f p p' (Opened k) says.Ignored
+pub ignores_opened : {A : Type 0} (e f : View) (p p' : List (Option Attempt)) (k : ℕ) (a : Attempt) (x : A) → k < length p → Some a ≡ get_or p k None → p' ≡ set p k None →
+    ((u : Supplied) → Ignored e f a (Ok x) (ignore (config_of e u) e.state a)) → Ignores e f p p' (Opened k) says.Ignored
 ignores_opened e f p p' k a x w is took =
     ignores e f p p' (Opened k) a (Ok x) (λ slots H. sym (H k) ∙ sym is)
     (λ i slots m says _ H.
@@ -297,9 +297,9 @@ ignores_opened e f p p' k a x w is took =
     (subst (λ q. Holds e.number q (λ j. cond (eqb j k) None (slots j))) (sym took) (holds_spent e.number p k slots w H)))
 
 -- or handed back
-pub keeps_opened : {A : Type 0} (e f : Endpoint) (p p' p'' : List (Option Attempt)) (k : ℕ) (a : Attempt) (h : HandedBack) →
+pub keeps_opened : {A : Type 0} (e f : View) (p p' p'' : List (Option Attempt)) (k : ℕ) (a : Attempt) (h : HandedBack) →
     p' ≡ set p k None → Some a ≡ get_or p k None → p'' ≡ set p' k (Some h.attempt) →
-    ((u : Supplied) → Ignored {A = A} e f a (Err h) (ignore (config_of e u) (state_of e) a)) → Ignores e f p p'' (Opened k) (says.Refused h.cause)
+    ((u : Supplied) → Ignored {A = A} e f a (Err h) (ignore (config_of e u) e.state a)) → Ignores e f p p'' (Opened k) (says.Refused h.cause)
 keeps_opened {A} e f p p' p'' k a h took there put =
     ignores {A = A} e f p p'' (Opened k) a (Err h) (λ slots H. sym (H k) ∙ sym there)
     (λ i slots m says back H.
@@ -307,14 +307,14 @@ keeps_opened {A} e f p p' p'' k a h took there put =
     (subst (λ q. Holds e.number q slots) (sym (put_back p k h.attempt took there put back)) H))
 
 -- one of another endpoint has no place in the pool
-pub ignores_foreign : {A : Type 0} (e f : Endpoint) (p : List (Option Attempt)) (number slot : ℕ) (a : Attempt) (r : Result A HandedBack) →
+pub ignores_foreign : {A : Type 0} (e f : View) (p : List (Option Attempt)) (number slot : ℕ) (a : Attempt) (r : Result A HandedBack) →
     a ≡ record { number = number; slot = slot } → (number ≡ e.number → ⊥) →
-    ((u : Supplied) → Ignored e f a r (ignore (config_of e u) (state_of e) a)) → Ignores e f p p (Foreign number slot) (said_of r)
+    ((u : Supplied) → Ignored e f a r (ignore (config_of e u) e.state a)) → Ignores e f p p (Foreign number slot) (said_of r)
 ignores_foreign e f p number slot a r is other =
     ignores e f p p (Foreign number slot) a r
     (λ slots H. cond-false (eqb number e.number) None _ (ne_eqb number e.number other) ∙ ap (λ x. Some x) (sym is)) leaves
   where
-    leaves : (i : ℕ) (slots : ℕ → Option ℕ) (m : Option Waiting) → ignored_of r ≡ (ignore_of (state_of e) m).answer → Back a r → Holds e.number p slots →
-        Holds e.number p (slots_after slots i (runs.ignores (runs.foreign (record { number = number; slot = slot }))) (ignore_of (state_of e) m).answer)
+    leaves : (i : ℕ) (slots : ℕ → Option ℕ) (m : Option Waiting) → ignored_of r ≡ (ignore_of e.state m).answer → Back a r → Holds e.number p slots →
+        Holds e.number p (slots_after slots i (runs.ignores (runs.foreign (record { number = number; slot = slot }))) (ignore_of e.state m).answer)
     leaves i slots None says _ H = H
     leaves i slots (Some w) says _ H = H

@@ -1,9 +1,8 @@
 ghost use Rattle.std.specs.Prelude.{◌≡◌, ℕ, ◌≤◌, true, false, ◌&&◌, List, length, if◌then◌else◌};
-ghost use Rattle.places.specs.Held.{width};
 ghost use Rattle.model.specs.Endpoint.{new_state};
 ghost use Rattle.model.specs.Runs.{Endpoint as Modelled};
 ghost use Rattle.model.specs.Theorem.{EndpointLaws};
-ghost use Rattle.endpoint.specs.State.{state_of};
+ghost use Rattle.endpoint.specs.State.{view};
 ghost use Rattle.endpoint.specs.SetUps.{sizes_of, set_up_fits};
 ghost use Rattle.run.specs.Pools.{all_none};
 ghost use Rattle.run.specs.Runs.{Built, Ran, calls_so, world_so, room_fits};
@@ -28,12 +27,12 @@ fn run_all<S: Supplies>(
     blocks: &mut [[u8; 1500]],
     answers: &mut [Answer],
 )
-    requires ready { e.old.ready ≡ true }
-    requires new { state_of e.old ≡ new_state }
+    requires ready { (view e.old).ready ≡ true }
+    requires new { (view e.old).state ≡ new_state }
     requires room { room_fits (length calls.now) pool.old (length blocks.old) (length answers.old) ≡ true }
-    ensures ready { e.new.ready ≡ true }
-    ensures ran { (E : Modelled) → Built E e.old.settings (width e.old.places) e.old.number (S.all supplies.old) → Ran E bytes.now calls.now (length calls.now) (S.all supplies.old) (S.all supplies.new) pool.new blocks.old blocks.new answers.old answers.new }
-    ensures state { (E : Modelled) → Built E e.old.settings (width e.old.places) e.old.number (S.all supplies.old) → state_of e.new ≡ (world_so E bytes.now calls.now (length calls.now)).state }
+    ensures ready { (view e.new).ready ≡ true }
+    ensures ran { (E : Modelled) → Built E (view e.old).settings (view e.old).width (view e.old).number (S.all supplies.old) → Ran E bytes.now calls.now (length calls.now) (S.all supplies.old) (S.all supplies.new) pool.new blocks.old blocks.new answers.old answers.new }
+    ensures state { (E : Modelled) → Built E (view e.old).settings (view e.old).width (view e.old).number (S.all supplies.old) → (view e.new).state ≡ (world_so E bytes.now calls.now (length calls.now)).state }
 {
     for i in 0..calls.len() {
         let answer = step(e, supplies, pool, &mut blocks[i], bytes, i, calls[i]);
@@ -51,11 +50,11 @@ fn run_ready<S: Supplies>(
     blocks: &mut [[u8; 1500]],
     answers: &mut [Answer],
 )
-    requires new { e.old.ready ≡ true → state_of e.old ≡ new_state }
-    requires room { e.old.ready ≡ true → room_fits (length calls.now) pool.old (length blocks.old) (length answers.old) ≡ true }
-    ensures ready { e.new.ready ≡ e.old.ready }
-    ensures refused { e.old.ready ≡ false → (S.all supplies.new ≡ S.all supplies.old) × (pool.new ≡ pool.old) × (blocks.new ≡ blocks.old) × (answers.new ≡ answers.old) }
-    ensures ran { e.old.ready ≡ true → (E : Modelled) → Built E e.old.settings (width e.old.places) e.old.number (S.all supplies.old) → Ran E bytes.now calls.now (length calls.now) (S.all supplies.old) (S.all supplies.new) pool.new blocks.old blocks.new answers.old answers.new × (state_of e.new ≡ (world_so E bytes.now calls.now (length calls.now)).state) }
+    requires new { (view e.old).ready ≡ true → (view e.old).state ≡ new_state }
+    requires room { (view e.old).ready ≡ true → room_fits (length calls.now) pool.old (length blocks.old) (length answers.old) ≡ true }
+    ensures ready { (view e.new).ready ≡ (view e.old).ready }
+    ensures refused { (view e.old).ready ≡ false → (S.all supplies.new ≡ S.all supplies.old) × (pool.new ≡ pool.old) × (blocks.new ≡ blocks.old) × (answers.new ≡ answers.old) }
+    ensures ran { (view e.old).ready ≡ true → (E : Modelled) → Built E (view e.old).settings (view e.old).width (view e.old).number (S.all supplies.old) → Ran E bytes.now calls.now (length calls.now) (S.all supplies.old) (S.all supplies.new) pool.new blocks.old blocks.new answers.old answers.new × ((view e.new).state ≡ (world_so E bytes.now calls.now (length calls.now)).state) }
 {
     if !e.is_ready() {
         return;
@@ -92,9 +91,9 @@ pub fn run<'a, S: Supplies>(
     blocks: &mut [[u8; 1500]],
     answers: &mut [Answer],
 ) -> Endpoint<'a>
-    ensures taken { result.ready ≡ (room_fits (length calls.now) pool.old (length blocks.old) (length answers.old) && set_up_fits settings.max_incoming w (sizes_of memory.entry)) }
-    ensures refused { result.ready ≡ false → (S.all supplies.new ≡ S.all supplies.old) × (pool.new ≡ pool.old) × (blocks.new ≡ blocks.old) × (answers.new ≡ answers.old) }
-    ensures ran { result.ready ≡ true → (E : Modelled) × Built E settings w number (S.all supplies.old) × Ran E bytes.now calls.now (length calls.now) (S.all supplies.old) (S.all supplies.new) pool.new blocks.old blocks.new answers.old answers.new × (state_of result ≡ (world_so E bytes.now calls.now (length calls.now)).state) × EndpointLaws E (calls_so bytes.now calls.now (length calls.now)) }
+    ensures taken { (view result).ready ≡ (room_fits (length calls.now) pool.old (length blocks.old) (length answers.old) && set_up_fits settings.max_incoming w (sizes_of memory.entry)) }
+    ensures refused { (view result).ready ≡ false → (S.all supplies.new ≡ S.all supplies.old) × (pool.new ≡ pool.old) × (blocks.new ≡ blocks.old) × (answers.new ≡ answers.old) }
+    ensures ran { (view result).ready ≡ true → (E : Modelled) × Built E settings w number (S.all supplies.old) × Ran E bytes.now calls.now (length calls.now) (S.all supplies.old) (S.all supplies.new) pool.new blocks.old blocks.new answers.old answers.new × ((view result).state ≡ (world_so E bytes.now calls.now (length calls.now)).state) × EndpointLaws E (calls_so bytes.now calls.now (length calls.now)) }
 {
     let fits = room_fits(calls.len(), pool, blocks.len(), answers.len());
     let mut e = Endpoint::new(memory, settings, places_for(fits, w), number);

@@ -2,7 +2,7 @@ ghost use Rattle.std.specs.Prelude.{◌≡◌, ℕ, ◌<◌, true, List, length,
 ghost use Rattle.calls.specs.declared.call.Call.TheVariants.{Handle};
 ghost use Rattle.calls.specs.declared.call.Brought.TheVariants.{Opened, Foreign};
 ghost use Rattle.calls.specs.Lists.{call_of};
-ghost use Rattle.endpoint.specs.State.{Frame};
+ghost use Rattle.endpoint.specs.State.{Frame, view};
 ghost use Rattle.run.specs.Pools.{Holds, StillEmpty, EmptyPast};
 ghost use Rattle.run.specs.Steps.{outcome, Stepped, noted, pooled, Ignores};
 
@@ -12,6 +12,7 @@ use calls::call::{Arrival, Brought, Call};
 use endpoint::endpoint::Endpoint;
 use endpoint::handled::{HandedBack, Handled};
 use records::address::FourTuple;
+use records::cause::Cause;
 use records::incoming::Attempt;
 use records::packet::{Close, Received};
 use records::shared::ConnectionId;
@@ -43,23 +44,28 @@ fn part_of(bytes: &[u8], at: usize, len: usize) -> &[u8]
 }
 
 // What `handle` says, as a plain value; an attempt goes to the pool.
-fn note(handled: Handled, close: Close, pool: &mut [Option<Attempt>], i: usize) -> Answer
+fn note(
+    handled: Result<Handled, Cause>,
+    close: Close,
+    pool: &mut [Option<Attempt>],
+    i: usize,
+) -> Answer
     requires within { i < length pool.old }
     requires free { slice_index_or pool.old i None ≡ None }
     ensures answer { result ≡ noted handled close }
     ensures pool { pool.new ≡ pooled handled pool.old i }
 {
     match handled {
-        Handled::Refused(cause) => Answer::Refused(cause),
-        Handled::Delivered(handle) => Answer::Delivered(handle),
-        Handled::Kept(slot) => Answer::Kept(slot),
-        Handled::Opened(attempt, opening) => {
+        Err(cause) => Answer::Refused(cause),
+        Ok(Handled::Delivered(handle)) => Answer::Delivered(handle),
+        Ok(Handled::Kept(slot)) => Answer::Kept(slot),
+        Ok(Handled::Opened(attempt, opening)) => {
             let slot = attempt.slot();
             put(pool, i, attempt);
             Answer::Opened(slot, opening)
         }
-        Handled::Closed => Answer::Closed(close),
-        Handled::Reset(n) => Answer::Reset(n),
+        Ok(Handled::Closed) => Answer::Closed(close),
+        Ok(Handled::Reset(n)) => Answer::Reset(n),
     }
 }
 
@@ -72,12 +78,12 @@ fn handle_at<S: Supplies>(
     i: usize,
     arrival: Arrival,
 ) -> Answer
-    requires ready { e.old.ready ≡ true }
+    requires ready { (view e.old).ready ≡ true }
     requires within { i < length pool.old }
     requires free { slice_index_or pool.old i None ≡ None }
-    ensures stepped { (slots : ℕ → OptionOf ℕ) → Holds e.old.number pool.old slots → Stepped e.old e.new (S.all supplies.old) (S.all supplies.new) pool.old pool.new block.old block.new bytes.now i (Handle arrival) slots result (outcome e.old (S.all supplies.old) slots (call_of bytes.now (Handle arrival))) }
+    ensures stepped { (slots : ℕ → OptionOf ℕ) → Holds (view e.old).number pool.old slots → Stepped (view e.old) (view e.new) (S.all supplies.old) (S.all supplies.new) pool.old pool.new block.old block.new bytes.now i (Handle arrival) slots result (outcome (view e.old) (S.all supplies.old) slots (call_of bytes.now (Handle arrival))) }
     ensures later { EmptyPast i pool.old pool.new }
-    ensures frame { Frame e.old e.new }
+    ensures frame { Frame (view e.old) (view e.new) }
 {
     let mut close = blank_close();
     let data = part_of(bytes, arrival.at, arrival.len);
@@ -96,10 +102,10 @@ fn handle_at<S: Supplies>(
 
 // Spends an attempt, or keeps it in its place.
 fn ignore_opened(e: &mut Endpoint, pool: &mut [Option<Attempt>], k: usize) -> Answer
-    requires { e.old.ready ≡ true }
-    ensures ignores { Ignores e.old e.new pool.old pool.new (Opened k) result }
+    requires { (view e.old).ready ≡ true }
+    ensures ignores { Ignores (view e.old) (view e.new) pool.old pool.new (Opened k) result }
     ensures empty { StillEmpty pool.old pool.new }
-    ensures frame { Frame e.old e.new }
+    ensures frame { Frame (view e.old) (view e.new) }
 {
     if k >= pool.len() {
         return Answer::Void;
@@ -118,9 +124,9 @@ fn ignore_opened(e: &mut Endpoint, pool: &mut [Option<Attempt>], k: usize) -> An
 
 // An attempt of another endpoint is handed back, and ends here.
 fn ignore_foreign(e: &mut Endpoint, pool: &[Option<Attempt>], number: u32, slot: u32) -> Answer
-    requires { e.old.ready ≡ true }
-    ensures ignores { Ignores e.old e.new pool.now pool.now (Foreign number slot) result }
-    ensures frame { Frame e.old e.new }
+    requires { (view e.old).ready ≡ true }
+    ensures ignores { Ignores (view e.old) (view e.new) pool.now pool.now (Foreign number slot) result }
+    ensures frame { Frame (view e.old) (view e.new) }
 {
     if number == e.number() {
         return Answer::Void;
@@ -135,10 +141,10 @@ fn ignore_foreign(e: &mut Endpoint, pool: &[Option<Attempt>], number: u32, slot:
 }
 
 fn ignore_at(e: &mut Endpoint, pool: &mut [Option<Attempt>], brought: Brought) -> Answer
-    requires { e.old.ready ≡ true }
-    ensures ignores { Ignores e.old e.new pool.old pool.new brought result }
+    requires { (view e.old).ready ≡ true }
+    ensures ignores { Ignores (view e.old) (view e.new) pool.old pool.new brought result }
     ensures empty { StillEmpty pool.old pool.new }
-    ensures frame { Frame e.old e.new }
+    ensures frame { Frame (view e.old) (view e.new) }
 {
     match brought {
         Brought::Opened(k) => ignore_opened(e, pool, k),
@@ -156,12 +162,12 @@ pub(crate) fn step<S: Supplies>(
     i: usize,
     call: Call,
 ) -> Answer
-    requires ready { e.old.ready ≡ true }
+    requires ready { (view e.old).ready ≡ true }
     requires within { i < length pool.old }
     requires free { slice_index_or pool.old i None ≡ None }
-    ensures stepped { (slots : ℕ → OptionOf ℕ) → Holds e.old.number pool.old slots → Stepped e.old e.new (S.all supplies.old) (S.all supplies.new) pool.old pool.new block.old block.new bytes.now i call slots result (outcome e.old (S.all supplies.old) slots (call_of bytes.now call)) }
+    ensures stepped { (slots : ℕ → OptionOf ℕ) → Holds (view e.old).number pool.old slots → Stepped (view e.old) (view e.new) (S.all supplies.old) (S.all supplies.new) pool.old pool.new block.old block.new bytes.now i call slots result (outcome (view e.old) (S.all supplies.old) slots (call_of bytes.now call)) }
     ensures later { EmptyPast i pool.old pool.new }
-    ensures frame { Frame e.old e.new }
+    ensures frame { Frame (view e.old) (view e.new) }
 {
     match call {
         Call::Handle(arrival) => handle_at(e, supplies, pool, block, bytes, i, arrival),

@@ -6,6 +6,7 @@ use Rattle.model.specs.Runs as runs
 use Rattle.model.proofs.Laws.{endpoint_laws}
 use Rattle.endpoint.specs.SetUps.{Sizes, sizes_of, set_up_fits, places_fit, numbers_fit, tables_fit}
 use Rattle.endpoint.proofs.Starting.{Fits, fits_so}
+use Rattle.endpoint.specs.State.{view}
 use Rattle.run.proofs.run.run.Goals as goal
 
 -- without a place for a datagram a set-up is refused
@@ -44,13 +45,13 @@ returns g c =
     let u = g.S.Supplies.all c.args.supplies.now in
     let room = c.room_fits-fits.result in
     let e = c.new-e.ensures in
-    let is : c.new-e.result.ready ≡ (room && set_up_fits given.max_incoming c.args.w m) =
+    let is : (view c.new-e.result).ready ≡ (room && set_up_fits given.max_incoming c.args.w m) =
     e.ready ∙ ap (λ k. set_up_fits given.max_incoming k m) c.places_for.ensures ∙ both_fit room given.max_incoming c.args.w m in
     record {
       taken = c.run_ready.ensures.ready ∙ is ∙ ap (λ b. b && set_up_fits given.max_incoming c.args.w m) c.room_fits-fits.ensures;
       refused = λ f. c.run_ready.ensures.refused (sym c.run_ready.ensures.ready ∙ f);
       ran = λ t.
-          let ready : c.new-e.result.ready ≡ true = sym c.run_ready.ensures.ready ∙ t in
+          let ready : (view c.new-e.result).ready ≡ true = sym c.run_ready.ensures.ready ∙ t in
           let both = and_parts room (set_up_fits given.max_incoming c.args.w m) (sym is ∙ ready) in
           let E = built given c.args.w c.args.number u m (fits_so given.max_incoming c.args.w m both.1) (g.met.S.Supplies.lawful c.args.supplies.now) in
           let p = c.run_ready.ensures.ran ready E (record {

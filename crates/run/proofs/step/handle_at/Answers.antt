@@ -1,4 +1,5 @@
 use Rattle.std.proofs.Common.{replicate, refl}
+use Rattle.endpoint.specs.State.{view}
 use Rattle.run.proofs.Stepping.{past_pooled, handled_whole, handled_short}
 use Rattle.run.proofs.step.handle_at.Goals as goal
 
@@ -8,7 +9,7 @@ returns-then-arrival g c =
     let r = c.handle-handled.result in
     record {
       stepped = λ slots H.
-          handled_short c.args.e.now c.handle-handled.new.self (g.S.Supplies.all c.args.supplies.now) (g.S.Supplies.all c.handle-handled.new.supplies)
+          handled_short (view c.args.e.now) (view c.handle-handled.new.self) (g.S.Supplies.all c.args.supplies.now) (g.S.Supplies.all c.handle-handled.new.supplies)
           (replicate 1499 0) c.handle-handled.new.out c.blank_close-close.result c.handle-handled.new.close r
           c.args.bytes.now c.args.arrival c.part_of-data.result.now p c.note.new.pool c.args.i c.note.result c.part_of-data.ensures c.requires.within
           c.note.ensures.answer c.note.ensures.pool slots H c.args.block.now c.if-arrival.true refl (c.handle-handled.ensures.answered c.requires.ready);
@@ -22,7 +23,7 @@ returns g c =
     let r = c.handle-handled-2.result in
     record {
       stepped = λ slots H.
-          handled_whole c.args.e.now c.handle-handled-2.new.self (g.S.Supplies.all c.args.supplies.now) (g.S.Supplies.all c.handle-handled-2.new.supplies)
+          handled_whole (view c.args.e.now) (view c.handle-handled-2.new.self) (g.S.Supplies.all c.args.supplies.now) (g.S.Supplies.all c.handle-handled-2.new.supplies)
           c.args.block.now c.handle-handled-2.new.out c.blank_close-close.result c.handle-handled-2.new.close r
           c.args.bytes.now c.args.arrival c.part_of-data.result.now p c.note-2.new.pool c.args.i c.note-2.result c.part_of-data.ensures c.requires.within
           c.note-2.ensures.answer c.note-2.ensures.pool slots H c.if-arrival.false c.told-block (c.handle-handled-2.ensures.answered c.requires.ready);

@@ -1,19 +1,20 @@
 use Rattle.std.proofs.Common.{None, Ok, Err, sym, refl}
 use Rattle.std.proofs.lemmas.List.{get_or_past}
 use Rattle.endpoint.proofs.Answering.{same_frame}
+use Rattle.endpoint.specs.State.{view}
 use Rattle.run.proofs.Stepping.{took_none, still_same, still_taken, still_put, void_opened, ignored_frame, ignores_opened, keeps_opened}
 use Rattle.run.proofs.step.ignore_opened.Goals as goal
 
 pub returns-then-k-pool : goal.returns-then-k-pool
 returns-then-k-pool c =
-    let e = c.args.e.now in
+    let e = view c.args.e.now in
     let p = c.args.pool.now in
     let k = c.args.k in
     record { ignores = void_opened e p p k refl (sym (get_or_past p k None c.if-k-pool.true)); empty = still_same {p = p} refl; frame = same_frame e }
 
 pub returns-in-None : goal.returns-in-None
 returns-in-None c =
-    let e = c.args.e.now in
+    let e = view c.args.e.now in
     let p = c.args.pool.now in
     let k = c.args.k in
     let none = c.in-None.ensures.value in
@@ -22,8 +23,8 @@ returns-in-None c =
 
 pub returns-in-Ok : goal.returns-in-Ok
 returns-in-Ok c =
-    let e = c.args.e.now in
-    let f = c.ignore.new.self in
+    let e = view c.args.e.now in
+    let f = view c.ignore.new.self in
     let a = c.in-Some.attempt in
     let had = c.in-Ok.ensures.ignored c.requires in
     let p = c.args.pool.now in
@@ -37,8 +38,8 @@ returns-in-Ok c =
 
 pub returns-in-Err : goal.returns-in-Err
 returns-in-Err c =
-    let e = c.args.e.now in
-    let f = c.ignore.new.self in
+    let e = view c.args.e.now in
+    let f = view c.ignore.new.self in
     let a = c.in-Some.attempt in
     let h = c.in-Err.field-0 in
     let had = c.in-Err.ensures.ignored c.requires in
