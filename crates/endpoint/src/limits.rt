@@ -16,25 +16,19 @@ pub fn reset_too_soon(last: Option<u64>, interval: u64, time: u64) -> bool
     last.is_some_and(|t| sum_exceeds(t, interval, time))
 }
 
-/// How many identifiers there are of 1 to 4 bytes.
+/// How many identifiers there are of at most 4 bytes.
 fn space(len: usize) -> usize
-    requires least { 1 ≤ len }
-    requires most { len ≤ 4 }
+    requires { len ≤ 4 }
     ensures { result ≡ 256 ^ len }
 {
-    match len {
-        1 => 256,
-        2 => 65536,
-        3 => 16777216,
-        _ => 4294967296,
-    }
+    256usize.pow(len as u32)
 }
 
 /// Whether fewer than a quarter of the identifiers of a length is left, at lengths of 1 to 4.
 pub fn cids_exhausted(len: usize, held: usize) -> bool
     ensures { result ≡ exhausted len held }
 {
-    if len < 1 || len > 4 {
+    if !(1..=4).contains(&len) {
         return false;
     }
     let all = space(len);
