@@ -5,8 +5,9 @@ use crate::address::FourTuple;
 use crate::shared::ConnectionId;
 
 /// The kind of a datagram's first packet.
-#[derive(Clone, Copy, PartialEq, Eq)]
+#[derive(Clone, Copy, Debug, Default, PartialEq, Eq)]
 pub enum Kind {
+    #[default]
     Initial,
     Handshake,
     ZeroRtt,
@@ -39,7 +40,7 @@ impl Kind {
 }
 
 /// A received datagram, its bytes apart.
-#[derive(Clone, Copy, PartialEq, Eq)]
+#[derive(Clone, Copy, Debug, Default, PartialEq, Eq)]
 pub struct Datagram {
     /// When it came, in milliseconds.
     pub time: u64,
@@ -57,21 +58,21 @@ pub struct Datagram {
 }
 
 /// A received datagram with its bytes.
-#[derive(Clone, Copy)]
+#[derive(Clone, Copy, Debug)]
 pub struct Received<'a> {
     pub datagram: &'a Datagram,
     pub bytes: &'a [u8],
 }
 
 /// A datagram that waits, its bytes apart, and how many it has.
-#[derive(Clone, Copy, PartialEq, Eq)]
+#[derive(Clone, Copy, Debug, Default, PartialEq, Eq)]
 pub struct Kept {
     pub datagram: Datagram,
     pub len: usize,
 }
 
 /// A close to be sent: the host encodes it.
-#[derive(Clone, Copy, PartialEq, Eq)]
+#[derive(Clone, Copy, Debug, Default, PartialEq, Eq)]
 pub struct Close {
     pub code: u64,
     pub version: u32,

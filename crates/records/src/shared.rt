@@ -3,7 +3,7 @@ ghost use Rattle.std.specs.Prelude.{◌≡◌, ℕ, ◌≤◌, length, slice_ind
 mod ops;
 
 /// A connection identifier: 0 to 20 bytes, and zeros past its length.
-#[derive(Clone, Copy, PartialEq, Eq)]
+#[derive(Clone, Copy, Debug, PartialEq, Eq)]
 pub struct ConnectionId {
     len: u8,
     bytes: [u8; 20],
