@@ -46,6 +46,7 @@ pub struct Datagram {
     pub time: u64,
     pub addresses: FourTuple,
     /// The ECN mark, 1 to 3.
+    // (d) A number and no enum: a datagram may come with another one, and is then refused.
     pub ecn: Option<u8>,
     /// How many of its bytes its first packet has.
     pub first_len: usize,
@@ -54,6 +55,7 @@ pub struct Datagram {
     pub src_cid: ConnectionId,
     pub version: u32,
     /// Whether an Initial bears a token.
+    // (d) A flag beside the kind: a datagram may come with it and be no Initial, and is then refused.
     pub token_mark: bool,
 }
 
