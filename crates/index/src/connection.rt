@@ -4,7 +4,7 @@ use records::shared::ConnectionId;
 use records::token::RemoteToken;
 
 /// An identifier that a connection holds, and its sequence.
-#[derive(Clone, Copy)]
+#[derive(Clone, Copy, Debug, Default)]
 pub struct Held {
     pub sequence: u32,
     pub id: ConnectionId,

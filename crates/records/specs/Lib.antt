@@ -3,3 +3,4 @@ pub mod Keys
 pub mod Causes
 pub mod Received
 pub mod Same
+pub mod Blank

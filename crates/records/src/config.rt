@@ -1,5 +1,5 @@
 /// What an endpoint is set up with, its memory and its suppliers apart.
-#[derive(Clone, Copy, PartialEq, Eq)]
+#[derive(Clone, Copy, Debug, PartialEq, Eq)]
 pub struct Settings {
     /// How many attempts may wait at once, at most 64.
     pub max_incoming: u32,

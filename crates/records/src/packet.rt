@@ -5,8 +5,9 @@ use crate::address::FourTuple;
 use crate::shared::ConnectionId;
 
 /// The kind of a datagram's first packet.
-#[derive(Clone, Copy, PartialEq, Eq)]
+#[derive(Clone, Copy, Debug, Default, PartialEq, Eq)]
 pub enum Kind {
+    #[default]
     Initial,
     Handshake,
     ZeroRtt,
@@ -39,12 +40,13 @@ impl Kind {
 }
 
 /// A received datagram, its bytes apart.
-#[derive(Clone, Copy, PartialEq, Eq)]
+#[derive(Clone, Copy, Debug, Default, PartialEq, Eq)]
 pub struct Datagram {
     /// When it came, in milliseconds.
     pub time: u64,
     pub addresses: FourTuple,
     /// The ECN mark, 1 to 3.
+    // (d) A number and no enum: a datagram may come with another one, and is then refused.
     pub ecn: Option<u8>,
     /// How many of its bytes its first packet has.
     pub first_len: usize,
@@ -53,25 +55,26 @@ pub struct Datagram {
     pub src_cid: ConnectionId,
     pub version: u32,
     /// Whether an Initial bears a token.
+    // (d) A flag beside the kind: a datagram may come with it and be no Initial, and is then refused.
     pub token_mark: bool,
 }
 
 /// A received datagram with its bytes.
-#[derive(Clone, Copy)]
+#[derive(Clone, Copy, Debug)]
 pub struct Received<'a> {
     pub datagram: &'a Datagram,
     pub bytes: &'a [u8],
 }
 
 /// A datagram that waits, its bytes apart, and how many it has.
-#[derive(Clone, Copy, PartialEq, Eq)]
+#[derive(Clone, Copy, Debug, Default, PartialEq, Eq)]
 pub struct Kept {
     pub datagram: Datagram,
     pub len: usize,
 }
 
 /// A close to be sent: the host encodes it.
-#[derive(Clone, Copy, PartialEq, Eq)]
+#[derive(Clone, Copy, Debug, Default, PartialEq, Eq)]
 pub struct Close {
     pub code: u64,
     pub version: u32,

@@ -3,11 +3,10 @@ use index::connection::ConnectionMeta;
 use index::target::RouteDatagramTo;
 use places::record::Place;
 use records::address::FourTuple;
-use records::packet::{Datagram, Kept, Kind};
+use records::packet::Kept;
 use records::shared::ConnectionId;
 use records::token::RemoteToken;
 use std::alloc::{AllocError, Global};
-use std::net::{IpAddr, Ipv4Addr, SocketAddr};
 use table::slot::Slot;
 
 /// The memory that is lent to an endpoint.
@@ -25,38 +24,13 @@ pub struct Storage {
     connection_reset_tokens: Vec<Slot<RemoteToken, u32>>,
 }
 
-// Blanks and not `Default`, which only the crates of these types could give them.
-fn no_addresses() -> FourTuple {
-    FourTuple {
-        remote: SocketAddr::new(IpAddr::V4(Ipv4Addr::UNSPECIFIED), 0),
-        local_ip: None,
-    }
-}
-
-/// A datagram that says nothing.
-pub fn no_datagram() -> Datagram {
-    Datagram {
-        time: 0,
-        addresses: no_addresses(),
-        ecn: None,
-        first_len: 0,
-        kind: Kind::Initial,
-        dst_cid: ConnectionId::empty(),
-        src_cid: ConnectionId::empty(),
-        version: 0,
-        token_mark: false,
-    }
-}
-
+// A blank and not `Default`, which only the crate of places could give.
 fn no_place() -> Place {
     Place {
         slot: 0,
         first: false,
         block: 0,
-        kept: Kept {
-            datagram: no_datagram(),
-            len: 0,
-        },
+        kept: Kept::default(),
     }
 }
 

@@ -1,4 +1,4 @@
-use crate::memory::{Storage, no_datagram};
+use crate::memory::Storage;
 use call_list::answer::answer_line;
 use call_list::list::Parsed;
 use call_list::set_up::SetUp;
@@ -7,6 +7,7 @@ use calls::call::{Arrival, Call};
 use records::cause::Cause;
 use records::config::Settings;
 use records::incoming::Attempt;
+use records::packet::Datagram;
 use records::shared::ConnectionId;
 use run::run::run;
 use std::alloc::{AllocError, Global};
@@ -21,7 +22,7 @@ type Four = Suppliers<ListGenerator, Recorded, XorKey, RowDoor>;
 // A line that cannot be brought is a datagram without bytes: it is refused by 1 as well.
 fn call_of(line: &Option<Call>) -> Call {
     line.unwrap_or(Call::Handle(Arrival {
-        datagram: no_datagram(),
+        datagram: Datagram::default(),
         at: 0,
         len: 0,
         small: false,

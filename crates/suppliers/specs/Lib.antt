@@ -2,4 +2,3 @@ pub mod Lists
 pub mod Bytes
 pub mod Rows
 pub mod Turns
-pub mod Few

@@ -4,7 +4,7 @@ ghost use Rattle.records.specs.Ids.{no_id};
 ghost use Rattle.suppliers.specs.Lists.{list_fits, in_turn};
 ghost use Rattle.suppliers.specs.Turns.{in_turn_lawful};
 
-use crate::few::Few;
+use arrayvec::ArrayVec;
 use records::cause::Cause;
 use records::shared::ConnectionId;
 use supply::supply::ConnectionIdGenerator;
@@ -12,7 +12,7 @@ use supply::supply::ConnectionIdGenerator;
 /// The identifiers of a list in turn, which begins again after the last.
 #[derive(Drop)]
 pub struct ListGenerator {
-    ids: Few<ConnectionId>,
+    ids: ArrayVec<ConnectionId, 32>,
     // (d) An iterator that begins again would borrow the list, which lies in the same value.
     at: usize,
     ghost within: { at < length ids.items },
@@ -34,10 +34,8 @@ impl ListGenerator {
         if ids.is_empty() || !ids.iter().all(|id| id.len() == len) {
             return Err(Cause::SetUp);
         }
-        Ok(ListGenerator {
-            ids: Few::new(ids, ConnectionId::empty())?,
-            at: 0,
-        })
+        let ids = ArrayVec::try_from(ids).map_err(|_| Cause::SetUp)?;
+        Ok(ListGenerator { ids, at: 0 })
     }
 }
 

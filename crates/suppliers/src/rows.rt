@@ -1,8 +1,10 @@
-ghost use Rattle.std.specs.Prelude.{◌≡◌, ◌<◌, ◌≤◌, length, MatchResult};
+ghost use Rattle.std.specs.Prelude.{◌≡◌, ◌<◌, ◌≤◌, false, Err, length, MatchResult};
 ghost use Rattle.records.specs.declared.cause.Cause.TheVariants.{SetUp};
+ghost use Rattle.supply.specs.declared.answers.HandshakeError.TheVariants.{Other};
+ghost use Rattle.supply.specs.declared.answers.Unopened.TheVariants.{Closed};
 ghost use Rattle.suppliers.specs.Rows.{row_for, rows_say};
 
-use crate::few::Few;
+use arrayvec::ArrayVec;
 use records::cause::Cause;
 use records::packet::Received;
 use records::shared::ConnectionId;
@@ -10,7 +12,7 @@ use supply::answers::{HandshakeError, Opening, Unopened};
 use supply::supply::Door;
 
 /// A version, and a door's answers for it.
-#[derive(Clone, Copy, Drop)]
+#[derive(Clone, Copy, Debug)]
 pub struct Row {
     pub version: u32,
     pub knows: bool,
@@ -19,19 +21,25 @@ pub struct Row {
     pub greets: Result<(), HandshakeError>,
 }
 
-// What fills the unused places of a door.
-const BLANK: Row = Row {
-    version: 0,
-    knows: false,
-    opens: Err(Unopened::Closed),
-    proves: false,
-    greets: Err(HandshakeError::Other),
-};
+impl Default for Row {
+    ghost is_default = { λ r. (r.version ≡ 0) × (r.knows ≡ false) × (r.opens ≡ Err Closed) × (r.proves ≡ false) × (r.greets ≡ Err Other) };
+
+    /// A row that answers as a door does where it has none.
+    fn default() -> Row {
+        Row {
+            version: 0,
+            knows: false,
+            opens: Err(Unopened::Closed),
+            proves: false,
+            greets: Err(HandshakeError::Other),
+        }
+    }
+}
 
 /// A door that answers by the first row of the version that it is asked about.
 #[derive(Drop)]
 pub struct RowDoor {
-    rows: Few<Row>,
+    rows: ArrayVec<Row, 32>,
 }
 
 impl RowDoor {
@@ -39,9 +47,8 @@ impl RowDoor {
     pub fn new(rows: &[Row]) -> Result<RowDoor, Cause>
         ensures { MatchResult result (λ door. (length rows.now ≤ 32) × (door.rows.items ≡ rows.now)) (λ e. (32 < length rows.now) × (e ≡ SetUp)) }
     {
-        Ok(RowDoor {
-            rows: Few::new(rows, BLANK)?,
-        })
+        let rows = ArrayVec::try_from(rows).map_err(|_| Cause::SetUp)?;
+        Ok(RowDoor { rows })
     }
 
     fn row(&self, version: u32) -> Option<Row>

@@ -1,7 +1,7 @@
 use records::shared::ConnectionId;
 
 /// What a door says of a datagram that it opens.
-#[derive(Clone, Copy)]
+#[derive(Clone, Copy, Debug)]
 pub struct Opening {
     /// Whether the client's address is validated.
     pub validated: bool,

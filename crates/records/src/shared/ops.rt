@@ -60,3 +60,12 @@ impl ConnectionId {
         hash_of(&self.bytes)
     }
 }
+
+impl Default for ConnectionId {
+    ghost is_default = { λ x. x ≡ no_id };
+
+    /// The identifier without bytes.
+    fn default() -> ConnectionId {
+        ConnectionId::empty()
+    }
+}
