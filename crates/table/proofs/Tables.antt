@@ -1,5 +1,5 @@
 use Rattle.std.proofs.Common.{◌≡◌, ℕ, ◌+◌, ◌<◌, Bool, true, false, cond, ◌≢◌, ◌⊎◌, List, length, get_or, set, Some, None, Option, Ok, Err, sym, refl, ap, ◌∙◌, subst, inl, inr, mod-lt, arith, length-set, get_or-set_other, get_or-set_same}
-use Rattle.std.proofs.lemmas.Bool.{cases_eq, cases_Bool, cases_order, both_ways}
+use Rattle.std.proofs.lemmas.Bool.{cases_eq, cases_Bool, cases_order, both_ways, false_from_ne_true}
 use Rattle.std.specs.Option.{option_map}
 use Rattle.table.specs.declared.slot.Slot.{Slot}
 use Rattle.table.specs.declared.slot.Spot.{Spot}
@@ -22,11 +22,6 @@ spread same code s r k v d l h e el = r (record { key = k; value = v; dist = d; 
 -- Reached, put together.
 pub joined : {K V : Type 0} (same : K → K → Bool) (code : K → ℕ) (s : List (Slot K V)) → Reach same code s → Reached same code s
 joined same code s r w = r w.key w.value w.dist w.within w.stands w.step w.before
-
-module _ {K : Type 0} (same : K → K → Bool) (exact : (a b : K) → same a b ≡ true → a ≡ b) where
-  -- Unequal keys are not the same.
-  pub other_key : (a k : K) → a ≢ k → same a k ≡ false
-  other_key a k ne = elim (cases_Bool (same a k)) [ inl t ↦ absurd (ne (exact a k t)) | inr f ↦ f ]
 
 module _ {K V : Type 0} (same : K → K → Bool) (exact : (a b : K) → same a b ≡ true → a ≡ b) (alike : (a : K) → same a a ≡ true) where
   -- A place that answers for k holds k.
@@ -105,14 +100,14 @@ module _ {K V : Type 0} (same : K → K → Bool) (exact : (a b : K) → same a 
       (λ a w e.
       let ka : k ≡ a = cc in
       subst (λ (b : K). (d : ℕ) × (d < length s) × (p ≡ around (length s) (home (length s) (code b)) d) × Passed same s (home (length s) (code b)) b d) ka (d, dl, pe, pa))
-      (λ a w q ne ql e. other_key same exact k a (λ z. ne (alone q w ql (e ∙ ap (λ b. Used b w) (sym z)))))
+      (λ a w q ne ql e. false_from_ne_true (same k a) (λ t. ne (alone q w ql (e ∙ ap (λ b. Used b w) (sym (exact k a t))))))
 
   -- Keys stay within reach if a place is freed.
   pub reached_free : (code : K → ℕ) (s : List (Slot K V)) (p : ℕ) → p < length s
       → ((a : K) → home (length s) (code a) < length s)
       → Reach same code s → Reach same code (set s p Freed)
   reached_free code s p pl hl r =
-      reached_set code s p Freed pl hl r (λ k v e. let z : ◌≡◌ {A = ℕ} 0 1 = cc in absurd (omega arith)) (λ k v q ne ql e. refl)
+      reached_set code s p Freed pl hl r (λ k v e. absurd cc) (λ k v q ne ql e. refl)
 
   -- A place with a key, at which the search for k ends, holds k.
   pub found : (s : List (Slot K V)) (k a : K) (p : ℕ) (v : V) → get_or s p Empty ≡ Used a v → stops same k (get_or s p Empty) ≡ true → get_or s p Empty ≡ Used k v
@@ -219,7 +214,7 @@ module _ {K V : Type 0} (same : K → K → Bool) (exact : (a b : K) → same a 
           sym (stands_lookup code s k p old r pl e),
           with_put s k v p pl one (λ j f. ap (answer same j) e ∙ answer_other k j old f),
           omega arith,
-          λ q. let z : ◌≡◌ {A = ℕ} 0 1 = cc in absurd (omega arith),
+          λ q. absurd cc,
         ),
       )
 
@@ -247,12 +242,12 @@ module _ {K V : Type 0} (same : K → K → Bool) (exact : (a b : K) → same a 
       no_key = absent h
 
       one : (j : ℕ) (w : V) → j < length s → get_or s j Empty ≡ Used k w → j ≡ p
-      one j w jl e = let a = no_key j jl in let b = answer_own k w in let c = ap (answer same k) e in let z : ◌≡◌ {A = ℕ} 0 1 = cc in absurd (omega arith)
+      one j w jl e = let a = no_key j jl in let b = answer_own k w in let c = ap (answer same k) e in absurd cc
 
       passes : (x : Slot K V) → weight x ≡ 1 → answer same k x ≡ None → stops same k x ≡ false
       passes Empty w a = absurd (omega arith)
       passes Freed w a = refl
-      passes (Used b c) w a = elim (cases_Bool (same b k)) [ inl t ↦ (let q = rw t at a in let z : ◌≡◌ {A = ℕ} 0 1 = cc in absurd (omega arith)) | inr f ↦ f ]
+      passes (Used b c) w a = grind arith
 
   -- The refusal of a new key where each place has a key.
   pub put_full : {E : Type 0} (s : List (Slot K V)) (k : K) (v : V) (o : ℕ) (x : E) → o < length s
@@ -290,7 +285,7 @@ module _ {K V : Type 0} (same : K → K → Bool) (exact : (a b : K) → same a 
           elim (cases_eq (around n o d) p) [
             | inl qp ↦
                 let a : Empty ≡ Used k v = sym (get_or-set_same s p Empty Empty pl) ∙ ap (λ i. get_or (set s p Empty) i Empty) (sym qp) ∙ at in
-                let z : ◌≡◌ {A = ℕ} 0 1 = cc in absurd (omega arith)
+                absurd cc
             | inr qn ↦
                 let at' : get_or s (around n o d) Empty ≡ Used k v = sym (get_or-set_other s p (around n o d) Empty Empty qn) ∙ at in
                 elim (cases_eq (around n o e) p) [
@@ -300,7 +295,7 @@ module _ {K V : Type 0} (same : K → K → Bool) (exact : (a b : K) → same a 
                       elim (cases_eq (e + 1) d) [
                         | inl ed ↦
                             let b : Empty ≡ Used k v = sym em' ∙ ap (λ i. get_or s (around n o i) Empty) ed ∙ at' in
-                            let y : ◌≡◌ {A = ℕ} 0 1 = cc in absurd (omega arith)
+                            absurd cc
                         | inr ne ↦ absurd (both_ways _ (r k v d dl at' (e + 1) (omega arith)) (ap (stops same k) em'))
                       ]
                   | inr z ↦ ap (stops same k) (get_or-set_other s p (around n o e) Empty Empty z) ∙ r k v d dl at' e el
@@ -331,5 +326,4 @@ module _ {K V : Type 0} where
       let l = around_less (length s) (home (length s) (code w.key)) w.dist (mod-lt (code w.key) (omega arith)) (omega arith) in
       let e = h _ l in
       let f = w.stands in
-      let z : ◌≡◌ {A = ℕ} 0 1 = cc in
-      absurd (omega arith)
+      absurd cc
