@@ -1,6 +1,6 @@
 -- A table has no more keys than a list that names each of them.
-use Rattle.std.proofs.Common.{◌≡◌, ℕ, zero, suc, ◌+◌, ◌<◌, ◌≤◌, Bool, true, cond, List, [], ◌∷◌, length, get_or, Some, None, Option, sym, refl, ap, ◌∙◌, inl, inr, arith}
-use Rattle.std.proofs.lemmas.Bool.{cond-true}
+use Rattle.std.proofs.lemmas.Bool.Decides.{nat_tests}
+use Rattle.std.proofs.Common.{◌≡◌, ℕ, zero, suc, ◌+◌, ◌<◌, ◌≤◌, Bool, true, cond, List, [], ◌∷◌, length, get_or, Some, None, Option, refl, ap, ◌∙◌, inl, inr, arith}
 use Rattle.table.specs.declared.slot.Slot.{Slot}
 use Rattle.table.specs.declared.slot.Slot.TheVariants.{Empty, Freed, Used}
 use Rattle.table.specs.Slots.{Reached, answer, or_else, lookup, weight, used}
@@ -37,10 +37,7 @@ module _ {K V : Type 0} (same : K → K → Bool) where
   -- a key that stands in a place is found
   pub stands_found : (alike : (a : K) → same a a ≡ true) (s : List (Slot K V)) (j : ℕ) (a : K) (v : V) → j < length s → get_or s j Empty ≡ Used a v → lookup same s a ≡ None → ⊥
   stands_found alike [] j a v l e n = omega arith
-  stands_found alike (x ∷ xs) zero a v l e n =
-      let h : answer same a x ≡ Some v = ap (answer same a) e ∙ cond-true (same a a) (Some v) None (alike a) in
-      let z : Some v ≡ None = sym (ap (λ o. or_else o (lookup same xs a)) h) ∙ n in
-      cc
+  stands_found alike (x ∷ xs) zero a v l e n = grind (arith, nat_tests)
   stands_found alike (x ∷ xs) (suc j) a v l e n = stands_found alike xs j a v (omega arith) e (behind (answer same a x) n)
     where
       behind : (o : Option V) → or_else o (lookup same xs a) ≡ None → lookup same xs a ≡ None

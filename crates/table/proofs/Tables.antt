@@ -1,5 +1,6 @@
+use Rattle.std.proofs.lemmas.Bool.Decides.{nat_tests}
 use Rattle.std.proofs.Common.{◌≡◌, ℕ, ◌+◌, ◌<◌, Bool, true, false, cond, ◌≢◌, ◌⊎◌, List, length, get_or, set, Some, None, Option, Ok, Err, sym, refl, ap, ◌∙◌, subst, inl, inr, mod-lt, arith, length-set, get_or-set_other, get_or-set_same}
-use Rattle.std.proofs.lemmas.Bool.{cases_eq, cases_Bool, cases_order, both_ways, false_from_ne_true}
+use Rattle.std.proofs.lemmas.Bool.{cases_eq, cases_Bool, both_ways, false_from_ne_true}
 use Rattle.std.specs.Option.{option_map}
 use Rattle.table.specs.declared.slot.Slot.{Slot}
 use Rattle.table.specs.declared.slot.Spot.{Spot}
@@ -46,14 +47,7 @@ module _ {K V : Type 0} (same : K → K → Bool) (exact : (a b : K) → same a 
       let o = home n (code k) in
       let t = around_to n o j h jl in
       let e' : get_or s (around n o t.0) Empty ≡ Used k v = ap (λ i. get_or s i Empty) (sym t.2) ∙ e in
-      elim (cases_order t.0 d) [
-        | inl q ↦ t.2 ∙ ap (around n o) q
-        | inr q ↦
-            elim q [
-              | inl b ↦ absurd (both_ways _ (pa t.0 b) (stop_at k v _ e'))
-              | inr b ↦ absurd (both_ways _ (r k v t.0 t.1 e' d b) st)
-            ]
-      ]
+      grind (arith, nat_tests, t, e')
 
   -- A write of y at p keeps the keys within reach.
   pub reached_set : (code : K → ℕ) (s : List (Slot K V)) (p : ℕ) (y : Slot K V) → p < length s
@@ -94,13 +88,7 @@ module _ {K V : Type 0} (same : K → K → Bool) (exact : (a b : K) → same a 
       → ((j : ℕ) (w : V) → j < length s → get_or s j Empty ≡ Used k w → j ≡ p)
       → Reach same code (set s p (Used k v))
   reached_put code s k v d p dl hl r pe pa alone =
-      let n = length s in
-      let pl : p < n = omega (arith, pe, around_less n (home n (code k)) d (hl k)) in
-      reached_set code s p (Used k v) pl hl r
-      (λ a w e.
-      let ka : k ≡ a = cc in
-      subst (λ (b : K). (d : ℕ) × (d < length s) × (p ≡ around (length s) (home (length s) (code b)) d) × Passed same s (home (length s) (code b)) b d) ka (d, dl, pe, pa))
-      (λ a w q ne ql e. false_from_ne_true (same k a) (λ t. ne (alone q w ql (e ∙ ap (λ b. Used b w) (sym (exact k a t))))))
+      grind (arith, nat_tests, around_less, reached_set code s p (Used k v), false_from_ne_true, alone)
 
   -- Keys stay within reach if a place is freed.
   pub reached_free : (code : K → ℕ) (s : List (Slot K V)) (p : ℕ) → p < length s
@@ -115,36 +103,18 @@ module _ {K V : Type 0} (same : K → K → Bool) (exact : (a b : K) → same a 
 
   -- A key whose search ends nowhere stands nowhere.
   pub absent_none : (s : List (Slot K V)) (k : K) (o : ℕ) → o < length s → Passed same s o k (length s) → (j : ℕ) → j < length s → answer same k (get_or s j Empty) ≡ None
-  absent_none s k o h pa j jl =
-      elim (answers k (get_or s j Empty)) [
-        | inl q ↦ q
-        | inr w ↦
-            let t = around_to (length s) o j h jl in
-            absurd (both_ways _ (pa t.0 t.1) (stop_at k w.0 _ (ap (λ i. get_or s i Empty) (sym t.2) ∙ w.1)))
-      ]
+  absent_none s k o h pa j jl = grind (arith, nat_tests, answers k (get_or s j Empty), around_to (length s) o j h jl, stop_at k)
 
   -- A key whose search ends at a place that does not hold it stands nowhere.
   pub absent_some : (code : K → ℕ) (s : List (Slot K V)) (k : K) (p : ℕ) → Reach same code s
       → Round (stops same k) Empty s (home (length s) (code k)) (Some p) → ((v : V) → get_or s p Empty ≡ Used k v → ⊥)
       → (j : ℕ) → j < length s → answer same k (get_or s j Empty) ≡ None
-  absent_some code s k p r near no_key j jl =
-      elim (answers k (get_or s j Empty)) [
-        | inl q ↦ q
-        | inr w ↦
-            let d = near.2 in
-            let st = ap (λ i. stops same k (get_or s i Empty)) (sym d.2) ∙ near.1 in
-            let jp = only code s k d.0 (omega arith) (mod-lt (code k) (omega arith)) r d.1 st d.3 j w.0 jl w.1 ∙ sym d.2 in
-            absurd (no_key w.0 (ap (λ i. get_or s i Empty) (sym jp) ∙ w.1))
-      ]
+  absent_some code s k p r near no_key j jl = grind (arith, nat_tests, answers k (get_or s j Empty), only code s k)
 
   -- A key stands at one place only.
   pub alone : (code : K → ℕ) (s : List (Slot K V)) (k : K) (p : ℕ) (v : V) → Reach same code s → p < length s → get_or s p Empty ≡ Used k v
       → (j : ℕ) (w : V) → j < length s → get_or s j Empty ≡ Used k w → j ≡ p
-  alone code s k p v r pl e j w jl f =
-      let h : home (length s) (code k) < length s = mod-lt (code k) (omega arith) in
-      let t = around_to (length s) (home (length s) (code k)) p h pl in
-      let e' = ap (λ i. get_or s i Empty) (sym t.2) ∙ e in
-      only code s k t.0 (omega arith) h r t.1 (stop_at k v _ e') (r k v t.0 t.1 e') j w jl f ∙ sym t.2
+  alone code s k p v r pl e j w jl f = grind (arith, nat_tests, around_to (length s) (home (length s) (code k)) p, only code s k, stop_at k v)
 
   -- A write at the only place that may hold k changes the map at k alone.
   pub with_set : (s : List (Slot K V)) (k : K) (p : ℕ) (y : Slot K V) → p < length s
@@ -322,8 +292,4 @@ module _ {K V : Type 0} (same : K → K → Bool) (exact : (a b : K) → same a 
 module _ {K V : Type 0} where
   -- Where each place is empty, every key can be reached, for want of keys.
   pub reached_cleared : (same : K → K → Bool) (code : K → ℕ) (s : List (Slot K V)) → Cleared s → Reached same code s
-  reached_cleared same code s h w =
-      let l = around_less (length s) (home (length s) (code w.key)) w.dist (mod-lt (code w.key) (omega arith)) (omega arith) in
-      let e = h _ l in
-      let f = w.stands in
-      absurd cc
+  reached_cleared same code s h w = grind (arith, nat_tests)
