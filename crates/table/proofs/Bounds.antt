@@ -1,11 +1,10 @@
 -- A table has no more keys than a list that names each of them.
-use Rattle.std.proofs.Common.{◌≡◌, ℕ, zero, suc, ◌+◌, ◌<◌, ◌≤◌, Bool, true, false, cond, List, [], ◌∷◌, length, get_or, Some, None, Option, sym, refl, ap, ◌∙◌, inl, inr, mod-lt, arith}
-use Rattle.std.proofs.lemmas.Bool.{cond-true}
+use Rattle.std.proofs.lemmas.Bool.Decides.{nat_tests}
+use Rattle.std.proofs.Common.{◌≡◌, ℕ, zero, suc, ◌+◌, ◌<◌, ◌≤◌, Bool, true, cond, List, [], ◌∷◌, length, get_or, Some, None, Option, refl, ap, ◌∙◌, inl, inr, arith}
 use Rattle.table.specs.declared.slot.Slot.{Slot}
 use Rattle.table.specs.declared.slot.Slot.TheVariants.{Empty, Freed, Used}
-use Rattle.table.specs.Slots.{around, home, Reached, answer, or_else, lookup, weight, used}
-use Rattle.table.proofs.Rounds.{around_to}
-use Rattle.table.proofs.Tables.{Reach, spread, answers, stop_at, only}
+use Rattle.table.specs.Slots.{Reached, answer, or_else, lookup, weight, used}
+use Rattle.table.proofs.Tables.{spread, answers, alone}
 
 -- the sum of f over a list
 abbrev pub total : {A : Type 0} → (A → ℕ) → List A → ℕ
@@ -38,14 +37,11 @@ module _ {K V : Type 0} (same : K → K → Bool) where
   -- a key that stands in a place is found
   pub stands_found : (alike : (a : K) → same a a ≡ true) (s : List (Slot K V)) (j : ℕ) (a : K) (v : V) → j < length s → get_or s j Empty ≡ Used a v → lookup same s a ≡ None → ⊥
   stands_found alike [] j a v l e n = omega arith
-  stands_found alike (x ∷ xs) zero a v l e n =
-      let h : answer same a x ≡ Some v = ap (answer same a) e ∙ cond-true (same a a) (Some v) None (alike a) in
-      let z : Some v ≡ None = sym (ap (λ o. or_else o (lookup same xs a)) h) ∙ n in
-      let y : ◌≡◌ {A = ℕ} 0 1 = cc in omega arith
+  stands_found alike (x ∷ xs) zero a v l e n = grind (arith, nat_tests)
   stands_found alike (x ∷ xs) (suc j) a v l e n = stands_found alike xs j a v (omega arith) e (behind (answer same a x) n)
     where
       behind : (o : Option V) → or_else o (lookup same xs a) ≡ None → lookup same xs a ≡ None
-      behind (Some w) h = let y : ◌≡◌ {A = ℕ} 0 1 = cc in absurd (omega arith)
+      behind (Some w) h = absurd cc
       behind None h = h
 
   none_hold : (k : K) (s : List (Slot K V)) → ((j : ℕ) → j < length s → answer same k (get_or s j Empty) ≡ None) → total (holds k) s ≡ 0
@@ -55,21 +51,13 @@ module _ {K V : Type 0} (same : K → K → Bool) where
       silent : (x : Slot K V) → answer same k x ≡ None → holds k x ≡ 0
       silent Empty e = refl
       silent Freed e = refl
-      silent (Used a v) e = flip (same a k) e
-        where
-          flip : (b : Bool) → cond b (Some v) None ≡ None → ◌≡◌ {A = ℕ} (cond b 1 0) 0
-          flip true e = let y : ◌≡◌ {A = ℕ} 0 1 = cc in absurd (omega arith)
-          flip false e = refl
+      silent (Used a v) e = grind arith
 
   module _ (exact : (a b : K) → same a b ≡ true → a ≡ b) (alike : (a : K) → same a a ≡ true) where
     holds_most : (k : K) (x : Slot K V) → holds k x ≤ 1
     holds_most k Empty = omega arith
     holds_most k Freed = omega arith
-    holds_most k (Used a v) = one (same a k)
-      where
-        one : (b : Bool) → cond b 1 0 ≤ 1
-        one true = omega arith
-        one false = omega arith
+    holds_most k (Used a v) = grind arith
 
     -- at most one place holds a key, if no two do
     once : (k : K) (s : List (Slot K V)) → ((i j : ℕ) (v w : V) → i < length s → j < length s → get_or s i Empty ≡ Used k v → get_or s j Empty ≡ Used k w → i ≡ j) → total (holds k) s ≤ 1
@@ -86,18 +74,6 @@ module _ {K V : Type 0} (same : K → K → Bool) where
           ]) in
           omega (arith, holds_most k x)
     ]
-
-    -- no two places hold one key
-    alone : (code : K → ℕ) (s : List (Slot K V)) → Reach same code s → (k : K) (i j : ℕ) (v w : V) → i < length s → j < length s → get_or s i Empty ≡ Used k v → get_or s j Empty ≡ Used k w → i ≡ j
-    alone code s r k i j v w il jl p q =
-        let n = length s in
-        let o = home n (code k) in
-        let some : 0 < n = omega arith in
-        let ol : o < n = mod-lt (code k) some in
-        let t = around_to n o i ol il in
-        let p' : get_or s (around n o t.0) Empty ≡ Used k v = ap (λ y. get_or s y Empty) (sym t.2) ∙ p in
-        let m = only same exact alike code s k t.0 some ol r t.1 (stop_at same exact alike k v _ p') (r k v t.0 t.1 p') j w jl q in
-        t.2 ∙ sym m
 
     -- each key in a place is named, so there are at most as many keys as names count places
     covered : (ks : List K) (s : List (Slot K V)) → ((j : ℕ) (a : K) (v : V) → j < length s → get_or s j Empty ≡ Used a v → 1 ≤ hits same a ks) → used s ≤ total (λ k. total (holds k) s) ks
@@ -117,5 +93,5 @@ module _ {K V : Type 0} (same : K → K → Bool) where
     pub used_bound : (code : K → ℕ) (s : List (Slot K V)) (ks : List K) → Reached same code s → ((a : K) → (lookup same s a ≡ None → ⊥) → 1 ≤ hits same a ks) → used s ≤ length ks
     used_bound code s ks r h =
         let c = covered ks s (λ j a v l e. h a (stands_found alike s j a v l e)) in
-        let o = total_ones (λ k. total (holds k) s) (λ k. once k s (alone code s (spread same code s r) k)) ks in
+        let o = total_ones (λ k. total (holds k) s) (λ k. once k s (λ i j v w il jl p q. alone same exact alike code s k j w (spread same code s r) jl q i v il p)) ks in
         omega arith

@@ -1,11 +1,10 @@
 -- What a search that goes round finds, place by place.
-use Rattle.std.proofs.Common.{◌≡◌, ℕ, suc, zero, ◌+◌, ◌-◌, ◌<◌, ◌≤◌, Bool, true, false, List, [], ◌∷◌, length, get_or, take, drop, position, Some, None, Option, sym, refl, ap, ◌∙◌, inl, inr, arith, length-drop, length-take, subst}
-use Rattle.std.proofs.lemmas.Bool.{cases_lt, cases_Bool, both_ways}
+use Rattle.std.proofs.Common.{◌≡◌, ℕ, ◌+◌, ◌-◌, ◌<◌, ◌≤◌, Bool, true, false, List, length, get_or, take, drop, position, Some, None, Option, sym, refl, ap, ◌∙◌, inl, inr, arith, length-drop, length-take, subst}
+use Rattle.std.proofs.lemmas.Bool.{cases_lt, both_ways}
 use Rattle.std.proofs.lemmas.Bool.Decides.{nat_tests}
 use Rattle.std.proofs.lemmas.List.{get_or-drop, get_or-take}
 use Rattle.std.proofs.lemmas.List.Quantifiers.{position-Some}
-use Rattle.std.proofs.lemmas.Iterator.Adapters.{position_from-zero}
-use Rattle.std.specs.List.{position_from}
+use Rattle.std.proofs.lemmas.List.Sums.{fails_before_first}
 use Rattle.std.specs.Option.{option_map}
 use Rattle.table.specs.declared.slot.Slot.{Slot}
 use Rattle.table.specs.declared.slot.Slot.TheVariants.{Empty, Freed, Used}
@@ -27,19 +26,8 @@ abbrev pub Passed : {K V : Type 0} → (K → K → Bool) → List (Slot K V) �
 Passed same s start k d = NoneOf (stops same k) Empty s start d
 
 module _ {T : Type 0} (p : T → Bool) (d : T) where
-  none_from : (i : ℕ) (xs : List T) → position_from p i xs ≡ None → (k : ℕ) → k < length xs → p (get_or xs k d) ≡ false
-  none_from i [] e k l = absurd (omega arith)
-  none_from i (x ∷ xs) e k l = elim (cases_Bool (p x)) [
-    | inl t ↦ let f : Some i ≡ None = rw t at e in let y : ◌≡◌ {A = ℕ} 0 1 = cc in absurd (omega arith)
-    | inr f ↦ at k (λ j h. none_from (i + 1) xs (rw f at e) j h) f l
-  ]
-    where
-      at : (k : ℕ) → ((j : ℕ) → j < length xs → p (get_or xs j d) ≡ false) → p x ≡ false → k < length (x ∷ xs) → p (get_or (x ∷ xs) k d) ≡ false
-      at zero r f l = f
-      at (suc k) r f l = r k (omega arith)
-
   position_none : (xs : List T) → position p xs ≡ None → (k : ℕ) → k < length xs → p (get_or xs k d) ≡ false
-  position_none xs e = none_from 0 xs (sym (position_from-zero p xs) ∙ e)
+  position_none xs e k l = fails_before_first p xs k d (grind (arith, nat_tests))
 
   -- What the search gives, place by place.
   pub nearest_round : (s : List T) (start : ℕ) → start < length s → Round p d s start (nearest p s start)

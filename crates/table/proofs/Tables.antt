@@ -1,5 +1,6 @@
+use Rattle.std.proofs.lemmas.Bool.Decides.{nat_tests}
 use Rattle.std.proofs.Common.{◌≡◌, ℕ, ◌+◌, ◌<◌, Bool, true, false, cond, ◌≢◌, ◌⊎◌, List, length, get_or, set, Some, None, Option, Ok, Err, sym, refl, ap, ◌∙◌, subst, inl, inr, mod-lt, arith, length-set, get_or-set_other, get_or-set_same}
-use Rattle.std.proofs.lemmas.Bool.{cases_eq, cases_Bool, cases_order, both_ways}
+use Rattle.std.proofs.lemmas.Bool.{cases_eq, cases_Bool, both_ways, false_from_ne_true}
 use Rattle.std.specs.Option.{option_map}
 use Rattle.table.specs.declared.slot.Slot.{Slot}
 use Rattle.table.specs.declared.slot.Spot.{Spot}
@@ -22,11 +23,6 @@ spread same code s r k v d l h e el = r (record { key = k; value = v; dist = d; 
 -- Reached, put together.
 pub joined : {K V : Type 0} (same : K → K → Bool) (code : K → ℕ) (s : List (Slot K V)) → Reach same code s → Reached same code s
 joined same code s r w = r w.key w.value w.dist w.within w.stands w.step w.before
-
-module _ {K : Type 0} (same : K → K → Bool) (exact : (a b : K) → same a b ≡ true → a ≡ b) where
-  -- Unequal keys are not the same.
-  pub other_key : (a k : K) → a ≢ k → same a k ≡ false
-  other_key a k ne = elim (cases_Bool (same a k)) [ inl t ↦ absurd (ne (exact a k t)) | inr f ↦ f ]
 
 module _ {K V : Type 0} (same : K → K → Bool) (exact : (a b : K) → same a b ≡ true → a ≡ b) (alike : (a : K) → same a a ≡ true) where
   -- A place that answers for k holds k.
@@ -51,14 +47,7 @@ module _ {K V : Type 0} (same : K → K → Bool) (exact : (a b : K) → same a 
       let o = home n (code k) in
       let t = around_to n o j h jl in
       let e' : get_or s (around n o t.0) Empty ≡ Used k v = ap (λ i. get_or s i Empty) (sym t.2) ∙ e in
-      elim (cases_order t.0 d) [
-        | inl q ↦ t.2 ∙ ap (around n o) q
-        | inr q ↦
-            elim q [
-              | inl b ↦ absurd (both_ways _ (pa t.0 b) (stop_at k v _ e'))
-              | inr b ↦ absurd (both_ways _ (r k v t.0 t.1 e' d b) st)
-            ]
-      ]
+      grind (arith, nat_tests, t, e')
 
   -- A write of y at p keeps the keys within reach.
   pub reached_set : (code : K → ℕ) (s : List (Slot K V)) (p : ℕ) (y : Slot K V) → p < length s
@@ -99,20 +88,14 @@ module _ {K V : Type 0} (same : K → K → Bool) (exact : (a b : K) → same a 
       → ((j : ℕ) (w : V) → j < length s → get_or s j Empty ≡ Used k w → j ≡ p)
       → Reach same code (set s p (Used k v))
   reached_put code s k v d p dl hl r pe pa alone =
-      let n = length s in
-      let pl : p < n = omega (arith, pe, around_less n (home n (code k)) d (hl k)) in
-      reached_set code s p (Used k v) pl hl r
-      (λ a w e.
-      let ka : k ≡ a = cc in
-      subst (λ (b : K). (d : ℕ) × (d < length s) × (p ≡ around (length s) (home (length s) (code b)) d) × Passed same s (home (length s) (code b)) b d) ka (d, dl, pe, pa))
-      (λ a w q ne ql e. other_key same exact k a (λ z. ne (alone q w ql (e ∙ ap (λ b. Used b w) (sym z)))))
+      grind (arith, nat_tests, around_less, reached_set code s p (Used k v), false_from_ne_true, alone)
 
   -- Keys stay within reach if a place is freed.
   pub reached_free : (code : K → ℕ) (s : List (Slot K V)) (p : ℕ) → p < length s
       → ((a : K) → home (length s) (code a) < length s)
       → Reach same code s → Reach same code (set s p Freed)
   reached_free code s p pl hl r =
-      reached_set code s p Freed pl hl r (λ k v e. let z : ◌≡◌ {A = ℕ} 0 1 = cc in absurd (omega arith)) (λ k v q ne ql e. refl)
+      reached_set code s p Freed pl hl r (λ k v e. absurd cc) (λ k v q ne ql e. refl)
 
   -- A place with a key, at which the search for k ends, holds k.
   pub found : (s : List (Slot K V)) (k a : K) (p : ℕ) (v : V) → get_or s p Empty ≡ Used a v → stops same k (get_or s p Empty) ≡ true → get_or s p Empty ≡ Used k v
@@ -120,36 +103,18 @@ module _ {K V : Type 0} (same : K → K → Bool) (exact : (a b : K) → same a 
 
   -- A key whose search ends nowhere stands nowhere.
   pub absent_none : (s : List (Slot K V)) (k : K) (o : ℕ) → o < length s → Passed same s o k (length s) → (j : ℕ) → j < length s → answer same k (get_or s j Empty) ≡ None
-  absent_none s k o h pa j jl =
-      elim (answers k (get_or s j Empty)) [
-        | inl q ↦ q
-        | inr w ↦
-            let t = around_to (length s) o j h jl in
-            absurd (both_ways _ (pa t.0 t.1) (stop_at k w.0 _ (ap (λ i. get_or s i Empty) (sym t.2) ∙ w.1)))
-      ]
+  absent_none s k o h pa j jl = grind (arith, nat_tests, answers k (get_or s j Empty), around_to (length s) o j h jl, stop_at k)
 
   -- A key whose search ends at a place that does not hold it stands nowhere.
   pub absent_some : (code : K → ℕ) (s : List (Slot K V)) (k : K) (p : ℕ) → Reach same code s
       → Round (stops same k) Empty s (home (length s) (code k)) (Some p) → ((v : V) → get_or s p Empty ≡ Used k v → ⊥)
       → (j : ℕ) → j < length s → answer same k (get_or s j Empty) ≡ None
-  absent_some code s k p r near no_key j jl =
-      elim (answers k (get_or s j Empty)) [
-        | inl q ↦ q
-        | inr w ↦
-            let d = near.2 in
-            let st = ap (λ i. stops same k (get_or s i Empty)) (sym d.2) ∙ near.1 in
-            let jp = only code s k d.0 (omega arith) (mod-lt (code k) (omega arith)) r d.1 st d.3 j w.0 jl w.1 ∙ sym d.2 in
-            absurd (no_key w.0 (ap (λ i. get_or s i Empty) (sym jp) ∙ w.1))
-      ]
+  absent_some code s k p r near no_key j jl = grind (arith, nat_tests, answers k (get_or s j Empty), only code s k)
 
   -- A key stands at one place only.
   pub alone : (code : K → ℕ) (s : List (Slot K V)) (k : K) (p : ℕ) (v : V) → Reach same code s → p < length s → get_or s p Empty ≡ Used k v
       → (j : ℕ) (w : V) → j < length s → get_or s j Empty ≡ Used k w → j ≡ p
-  alone code s k p v r pl e j w jl f =
-      let h : home (length s) (code k) < length s = mod-lt (code k) (omega arith) in
-      let t = around_to (length s) (home (length s) (code k)) p h pl in
-      let e' = ap (λ i. get_or s i Empty) (sym t.2) ∙ e in
-      only code s k t.0 (omega arith) h r t.1 (stop_at k v _ e') (r k v t.0 t.1 e') j w jl f ∙ sym t.2
+  alone code s k p v r pl e j w jl f = grind (arith, nat_tests, around_to (length s) (home (length s) (code k)) p, only code s k, stop_at k v)
 
   -- A write at the only place that may hold k changes the map at k alone.
   pub with_set : (s : List (Slot K V)) (k : K) (p : ℕ) (y : Slot K V) → p < length s
@@ -219,7 +184,7 @@ module _ {K V : Type 0} (same : K → K → Bool) (exact : (a b : K) → same a 
           sym (stands_lookup code s k p old r pl e),
           with_put s k v p pl one (λ j f. ap (answer same j) e ∙ answer_other k j old f),
           omega arith,
-          λ q. let z : ◌≡◌ {A = ℕ} 0 1 = cc in absurd (omega arith),
+          λ q. absurd cc,
         ),
       )
 
@@ -247,12 +212,12 @@ module _ {K V : Type 0} (same : K → K → Bool) (exact : (a b : K) → same a 
       no_key = absent h
 
       one : (j : ℕ) (w : V) → j < length s → get_or s j Empty ≡ Used k w → j ≡ p
-      one j w jl e = let a = no_key j jl in let b = answer_own k w in let c = ap (answer same k) e in let z : ◌≡◌ {A = ℕ} 0 1 = cc in absurd (omega arith)
+      one j w jl e = let a = no_key j jl in let b = answer_own k w in let c = ap (answer same k) e in absurd cc
 
       passes : (x : Slot K V) → weight x ≡ 1 → answer same k x ≡ None → stops same k x ≡ false
       passes Empty w a = absurd (omega arith)
       passes Freed w a = refl
-      passes (Used b c) w a = elim (cases_Bool (same b k)) [ inl t ↦ (let q = rw t at a in let z : ◌≡◌ {A = ℕ} 0 1 = cc in absurd (omega arith)) | inr f ↦ f ]
+      passes (Used b c) w a = grind arith
 
   -- The refusal of a new key where each place has a key.
   pub put_full : {E : Type 0} (s : List (Slot K V)) (k : K) (v : V) (o : ℕ) (x : E) → o < length s
@@ -290,7 +255,7 @@ module _ {K V : Type 0} (same : K → K → Bool) (exact : (a b : K) → same a 
           elim (cases_eq (around n o d) p) [
             | inl qp ↦
                 let a : Empty ≡ Used k v = sym (get_or-set_same s p Empty Empty pl) ∙ ap (λ i. get_or (set s p Empty) i Empty) (sym qp) ∙ at in
-                let z : ◌≡◌ {A = ℕ} 0 1 = cc in absurd (omega arith)
+                absurd cc
             | inr qn ↦
                 let at' : get_or s (around n o d) Empty ≡ Used k v = sym (get_or-set_other s p (around n o d) Empty Empty qn) ∙ at in
                 elim (cases_eq (around n o e) p) [
@@ -300,7 +265,7 @@ module _ {K V : Type 0} (same : K → K → Bool) (exact : (a b : K) → same a 
                       elim (cases_eq (e + 1) d) [
                         | inl ed ↦
                             let b : Empty ≡ Used k v = sym em' ∙ ap (λ i. get_or s (around n o i) Empty) ed ∙ at' in
-                            let y : ◌≡◌ {A = ℕ} 0 1 = cc in absurd (omega arith)
+                            absurd cc
                         | inr ne ↦ absurd (both_ways _ (r k v d dl at' (e + 1) (omega arith)) (ap (stops same k) em'))
                       ]
                   | inr z ↦ ap (stops same k) (get_or-set_other s p (around n o e) Empty Empty z) ∙ r k v d dl at' e el
@@ -327,9 +292,4 @@ module _ {K V : Type 0} (same : K → K → Bool) (exact : (a b : K) → same a 
 module _ {K V : Type 0} where
   -- Where each place is empty, every key can be reached, for want of keys.
   pub reached_cleared : (same : K → K → Bool) (code : K → ℕ) (s : List (Slot K V)) → Cleared s → Reached same code s
-  reached_cleared same code s h w =
-      let l = around_less (length s) (home (length s) (code w.key)) w.dist (mod-lt (code w.key) (omega arith)) (omega arith) in
-      let e = h _ l in
-      let f = w.stands in
-      let z : ◌≡◌ {A = ℕ} 0 1 = cc in
-      absurd (omega arith)
+  reached_cleared same code s h w = grind (arith, nat_tests)

@@ -1,11 +1,8 @@
-use Rattle.std.proofs.Common.{set, refl, length-set}
+use Rattle.std.proofs.Common.{set, refl}
 use Rattle.table.specs.declared.slot.Slot.TheVariants.{Freed}
 use Rattle.table.proofs.Lookups.{lookup_absent}
 use Rattle.table.proofs.Tables.{remove_known, removed_tidied}
 use Rattle.table.proofs.ops.remove_in.Goals as goal
-
-pub tidy-requires : goal.tidy-requires
-tidy-requires g c = simp length-set c.in-Some.ensures.0
 
 pub returns : goal.returns
 returns g c =

@@ -1,4 +1,4 @@
-use Rattle.std.proofs.Common.{◌≡◌, ◌<◌, length, get_or, sym, refl, ap, ◌∙◌, arith}
+use Rattle.std.proofs.Common.{◌≡◌, ◌<◌, length, get_or, sym, ap, ◌∙◌, arith}
 use Rattle.std.proofs.lemmas.List.{get_or_read}
 use Rattle.table.specs.declared.slot.Slot.TheVariants.{Empty}
 use Rattle.table.specs.Slots.{around, is_freed, is_empty}
@@ -6,9 +6,6 @@ use Rattle.table.proofs.Rounds.{around_less}
 use Rattle.table.proofs.Searches.{freed_is, empty_is}
 use Rattle.table.proofs.Tables.{tidied_more}
 use Rattle.table.proofs.ops.tidy.Goals as goal
-
-pub loop-turn-init : goal.loop-turn-init
-loop-turn-init g c = (c.requires, λ h. record { reached = h; long = refl; maps = λ j. refl; count = refl })
 
 pub loop-turn-preserved : goal.loop-turn-preserved
 loop-turn-preserved g c =
