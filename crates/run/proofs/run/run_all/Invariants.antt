@@ -13,4 +13,4 @@ invariant-loop-i g l =
     Frame l.initial.e l.e
     × ((k : ℕ) → l.i ≤ k → get_or l.pool k None ≡ None)
     × ((E : runs.Endpoint) → Built E l.initial.e.settings (width l.initial.e.places) l.initial.e.number u →
-    Progress E l.bytes l.calls l.i l.e u (all l.supplies) l.pool l.initial.blocks l.blocks l.initial.answers l.answers)
+    Progress E l.calls l.i l.e u (all l.supplies) l.pool l.initial.blocks l.blocks l.initial.answers l.answers)
