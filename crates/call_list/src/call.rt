@@ -1,7 +1,7 @@
 ghost use Rattle.std.specs.Prelude.{◌≡◌, ◌≤◌, IfOk, IfSome, MatchOption, codes, min, vec_items, vec_len};
 ghost use Rattle.words.specs.Words.{Decimal, read_on};
 ghost use Rattle.std.specs.declared.option.Option.TheVariants.{None};
-ghost use Rattle.call_list.specs.Lines.{Arrives, BytesBy, BytesOf, BroughtBy};
+ghost use Rattle.call_list.specs.Lines.{Arrives, Short, BytesBy, BytesOf, BroughtBy};
 
 use crate::address::{local, remote};
 use crate::fields::{bit, bytes, fixed, identifier, number};
@@ -122,8 +122,8 @@ fn filled(heap: Global, n: usize, fill: &str, tail: &str) -> Result<Option<Vec<u
 
 /// A `handle` line after its first word.
 fn handle(heap: Global, words: &[&str], small: bool) -> Result<Option<OwnedCall>, Unread>
-    ensures bytes { IfOk result (λ line. IfSome line (Arrives (λ bytes. BytesOf words.now (vec_items bytes)))) }
-    ensures short { IfOk result (λ line. IfSome line (Arrives (λ bytes. vec_len bytes ≤ 65535))) }
+    ensures bytes { IfOk result (Arrives (BytesOf words.now)) }
+    ensures short { IfOk result Short }
 {
     let [_, _, _, _, n, _, _, _, _, _, _, fill, tail] = words else {
         return Err(no_line(Form::Handle));
@@ -156,7 +156,7 @@ fn brought(word: &str, endpoint: u32) -> Result<Brought, Unread>
 
 /// A call's line, as its words, for the endpoint with this number.
 pub fn call(heap: Global, words: &[&str], endpoint: u32) -> Result<Option<OwnedCall>, Unread>
-    ensures { IfOk result (λ line. IfSome line (Arrives (λ bytes. vec_len bytes ≤ 65535))) }
+    ensures { IfOk result Short }
 {
     match words {
         ["handle", rest @ .., "small"] if rest.len() == 13 => handle(heap, rest, true),

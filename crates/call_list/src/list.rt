@@ -1,6 +1,6 @@
-ghost use Rattle.std.specs.Prelude.{◌≤◌, IfOk, IfSome, vec_len};
+ghost use Rattle.std.specs.Prelude.{IfOk};
 ghost use Rattle.std.specs.List.{AllByRecursion};
-ghost use Rattle.call_list.specs.Lines.{Arrives};
+ghost use Rattle.call_list.specs.Lines.{Short};
 
 use crate::call::call;
 use crate::fault::{Failure, Fault, Trouble};
@@ -87,7 +87,7 @@ fn set_up(heap: Global, lines: &[Numbered]) -> Result<SetUp, Failure> {
 
 /// The set-up with the calls of these lines up to the first with a fault, and the fault.
 fn with_calls(heap: Global, set_up: SetUp, lines: &[Numbered]) -> Result<Parsed, Failure>
-    ensures { IfOk result (λ p. AllByRecursion (λ line. IfSome line (Arrives (λ bytes. vec_len bytes ≤ 65535))) p.calls.items) }
+    ensures { IfOk result (λ p. AllByRecursion Short p.calls.items) }
 {
     let mut calls = Vec::new(heap);
     // A loop and not `try_collect`, since the calls before a fault are kept.
@@ -108,7 +108,7 @@ fn with_calls(heap: Global, set_up: SetUp, lines: &[Numbered]) -> Result<Parsed,
 
 /// Reads a call list: its set-up, and its calls up to the first line with a fault.
 pub fn parse(heap: Global, text: &str) -> Result<Parsed, Failure>
-    ensures { IfOk result (λ p. AllByRecursion (λ line. IfSome line (Arrives (λ bytes. vec_len bytes ≤ 65535))) p.calls.items) }
+    ensures { IfOk result (λ p. AllByRecursion Short p.calls.items) }
 {
     let lines = speaking(heap, text)?;
     let lines = lines.as_slice();
