@@ -1,3 +1,2 @@
-pub mod Withins
 pub mod Printed
 pub mod Octets

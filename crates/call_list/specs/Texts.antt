@@ -14,6 +14,7 @@ use Rattle.records.specs.declared.address.FourTuple.{FourTuple}
 use Rattle.records.specs.declared.packet.Close.{Close}
 use Rattle.records.specs.declared.shared.ConnectionId.{ConnectionId}
 use Rattle.supply.specs.declared.answers.Opening.{Opening}
+use Rattle.calls.specs.declared.call.Arrival.{Arrival}
 use Rattle.calls.specs.declared.call.Call as call
 use Rattle.calls.specs.declared.call.Call.TheVariants.{Handle, Ignore}
 use Rattle.calls.specs.declared.answer.Answer as answer
@@ -67,7 +68,7 @@ abbrev pub closed_text : Close → List ℕ
 closed_text c = spaced (decimal c.code ∷ decimal c.version ∷ addresses_text c.addresses ∷ id_text c.dst_cid ∷ id_text c.src_cid ∷ [])
 
 -- the addresses of the datagram that a line brings, if it brings one
-abbrev pub addresses_of : Option call.Call → Option FourTuple
+abbrev pub addresses_of : {B : Type 0} → Option (call.Call (Arrival B)) → Option FourTuple
 addresses_of None = None
 addresses_of (Some (Handle a)) = Some a.datagram.addresses
 addresses_of (Some (Ignore b)) = None
@@ -78,7 +79,7 @@ reset_words None bytes = codes "done" ∷ []
 reset_words (Some f) bytes = codes "reset" ∷ addresses_text f ∷ bytes_word bytes ∷ []
 
 -- what is said of a line's call, whose block of output this is
-abbrev pub answer_words : Option call.Call → List ℕ → answer.Answer → List (List ℕ)
+abbrev pub answer_words : {B : Type 0} → Option (call.Call (Arrival B)) → List ℕ → answer.Answer → List (List ℕ)
 answer_words line block (says.Refused c) = cause_word (cause_number c) ∷ decimal (cause_number c) ∷ []
 answer_words line block (says.Delivered h) = codes "delivered" ∷ decimal h ∷ []
 answer_words line block (says.Kept s) = codes "kept" ∷ decimal s ∷ []
@@ -89,5 +90,5 @@ answer_words line block says.Ignored = codes "ignored" ∷ []
 answer_words line block says.Void = codes "void" ∷ []
 
 -- the line of the answer to the call of this number
-abbrev pub answer_text : ℕ → Option call.Call → List ℕ → answer.Answer → List ℕ
+abbrev pub answer_text : {B : Type 0} → ℕ → Option (call.Call (Arrival B)) → List ℕ → answer.Answer → List ℕ
 answer_text number line block answer = spaced (decimal number ∷ answer_words line block answer)

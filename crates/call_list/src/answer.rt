@@ -4,6 +4,7 @@ ghost use Rattle.call_list.specs.Texts.{spaced, addresses_of, answer_text};
 ghost use Rattle.records.specs.Causes.{cause_number};
 ghost use Rattle.words.specs.Words.{cause_word};
 
+use crate::list::OwnedCall;
 use crate::shown::{Addresses, Closed, Hex, Opened};
 use calls::answer::Answer;
 use calls::call::Call;
@@ -43,7 +44,7 @@ fn word_of(cause: Cause) -> &'static str
 }
 
 /// The addresses of the datagram that a line brings, if it brings one.
-fn addresses_of(line: &Option<Call>) -> Option<FourTuple>
+fn addresses_of(line: &Option<OwnedCall>) -> Option<FourTuple>
     ensures { result ≡ addresses_of line.now }
 {
     match line {
@@ -56,7 +57,7 @@ fn addresses_of(line: &Option<Call>) -> Option<FourTuple>
 fn reset_line(
     heap: Global,
     number: usize,
-    line: &Option<Call>,
+    line: &Option<OwnedCall>,
     len: usize,
     block: &[u8],
 ) -> Result<String, AllocError>
@@ -80,7 +81,7 @@ fn refused_line(heap: Global, number: usize, cause: Cause) -> Result<String, All
 pub fn answer_line(
     heap: Global,
     number: usize,
-    line: &Option<Call>,
+    line: &Option<OwnedCall>,
     answer: &Answer,
     block: &[u8],
 ) -> Result<String, AllocError>

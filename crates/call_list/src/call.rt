@@ -1,11 +1,12 @@
-ghost use Rattle.std.specs.Prelude.{◌≡◌, ◌≤◌, IfOk, MatchOption, codes, min, vec_len};
+ghost use Rattle.std.specs.Prelude.{◌≡◌, ◌≤◌, IfOk, IfSome, MatchOption, codes, min, vec_items, vec_len};
 ghost use Rattle.words.specs.Words.{Decimal, read_on};
 ghost use Rattle.std.specs.declared.option.Option.TheVariants.{None};
-ghost use Rattle.call_list.specs.Lines.{Within, BroughtBy};
+ghost use Rattle.call_list.specs.Lines.{Arrives, Short, BytesBy, BytesOf, BroughtBy};
 
 use crate::address::{local, remote};
 use crate::fields::{bit, bytes, fixed, identifier, number};
 use crate::form::{Field, Form, Later};
+use crate::list::OwnedCall;
 use crate::unread::{Unread, no_line, no_word, not_yet};
 use calls::call::{Arrival, Brought, Call};
 use records::address::FourTuple;
@@ -95,7 +96,7 @@ fn datagram(heap: Global, words: &[&str]) -> Result<Option<Datagram>, Unread> {
 }
 
 /// A `handle` line without bytes. TAIL is too long, unless N or FIRST is no length: then the line is refused for that.
-fn no_bytes(n: usize, first: usize) -> Result<Option<Call>, Unread>
+fn no_bytes(n: usize, first: usize) -> Result<Option<OwnedCall>, Unread>
     ensures { IfOk result (λ l. l ≡ None) }
 {
     if n > 0 && n <= 1500 && first > 0 && first <= n {
@@ -104,35 +105,41 @@ fn no_bytes(n: usize, first: usize) -> Result<Option<Call>, Unread>
     Ok(None)
 }
 
-/// A `handle` line after its first word: the datagram's bytes go behind the others.
-fn handle(
-    heap: Global,
-    words: &[&str],
-    small: bool,
-    all: &mut Vec<u8>,
-) -> Result<Option<Call>, Unread>
-    ensures within { IfOk result (Within (vec_len all.new)) }
-    ensures grows { vec_len all.old ≤ vec_len all.new }
+/// The `n` bytes of a datagram: TAIL, and before it FILL. `None` where there are too many.
+fn filled(heap: Global, n: usize, fill: &str, tail: &str) -> Result<Option<Vec<u8>>, Unread>
+    ensures filled { IfOk result (λ o. IfSome o (λ bytes. BytesBy n fill.now tail.now (vec_items bytes))) }
+    ensures short { IfOk result (λ o. IfSome o (λ bytes. vec_len bytes ≤ 65535)) }
+{
+    let [fill] = fixed::<1>(heap, fill, Field::Fill)?;
+    let tail = bytes(heap, tail, Field::Tail)?;
+    if n > LONGEST || tail.len() > n {
+        return Ok(None);
+    }
+    let mut bytes = Vec::new(heap);
+    fill_tail(&mut bytes, n, fill, tail.as_slice())?;
+    Ok(Some(bytes))
+}
+
+/// A `handle` line after its first word.
+fn handle(heap: Global, words: &[&str], small: bool) -> Result<Option<OwnedCall>, Unread>
+    ensures bytes { IfOk result (Arrives (BytesOf words.now)) }
+    ensures short { IfOk result Short }
 {
     let [_, _, _, _, n, _, _, _, _, _, _, fill, tail] = words else {
         return Err(no_line(Form::Handle));
     };
-    let len = number(n, Field::Length)?;
+    let n = number(n, Field::Length)?;
     let datagram = datagram(heap, words)?;
-    let [fill] = fixed::<1>(heap, fill, Field::Fill)?;
-    let tail = bytes(heap, tail, Field::Tail)?;
+    let bytes = filled(heap, n, fill, tail)?;
     let Some(datagram) = datagram else {
         return Ok(None);
     };
-    if len > LONGEST || tail.len() > len {
-        return no_bytes(len, datagram.first_len);
-    }
-    let at = all.len();
-    fill_tail(all, len, fill, tail.as_slice())?;
+    let Some(bytes) = bytes else {
+        return no_bytes(n, datagram.first_len);
+    };
     Ok(Some(Call::Handle(Arrival {
         datagram,
-        at,
-        len,
+        bytes,
         small,
     })))
 }
@@ -148,18 +155,12 @@ fn brought(word: &str, endpoint: u32) -> Result<Brought, Unread>
 }
 
 /// A call's line, as its words, for the endpoint with this number.
-pub fn call(
-    heap: Global,
-    words: &[&str],
-    endpoint: u32,
-    all: &mut Vec<u8>,
-) -> Result<Option<Call>, Unread>
-    ensures within { IfOk result (Within (vec_len all.new)) }
-    ensures grows { vec_len all.old ≤ vec_len all.new }
+pub fn call(heap: Global, words: &[&str], endpoint: u32) -> Result<Option<OwnedCall>, Unread>
+    ensures { IfOk result Short }
 {
     match words {
-        ["handle", rest @ .., "small"] if rest.len() == 13 => handle(heap, rest, true, all),
-        ["handle", rest @ ..] => handle(heap, rest, false, all),
+        ["handle", rest @ .., "small"] if rest.len() == 13 => handle(heap, rest, true),
+        ["handle", rest @ ..] => handle(heap, rest, false),
         ["ignore", k] => Ok(Some(Call::Ignore(brought(k, endpoint)?))),
         ["ignore", ..] => Err(no_line(Form::Ignore)),
         ["accept", ..] => Err(not_yet(Later::Accept)),

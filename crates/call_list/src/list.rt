@@ -1,6 +1,6 @@
-ghost use Rattle.std.specs.Prelude.{IfOk, vec_len};
+ghost use Rattle.std.specs.Prelude.{IfOk};
 ghost use Rattle.std.specs.List.{AllByRecursion};
-ghost use Rattle.call_list.specs.Lines.{Within};
+ghost use Rattle.call_list.specs.Lines.{Short};
 
 use crate::call::call;
 use crate::fault::{Failure, Fault, Trouble};
@@ -9,8 +9,11 @@ use crate::form::Form;
 use crate::set_up::SetUp;
 use crate::set_up_lines::{door, endpoint, generator, settings, signer, source};
 use crate::unread::Unread;
-use calls::call::Call;
+use calls::call::{Arrival, Call};
 use std::alloc::{AllocError, Global};
+
+/// A call that owns its datagram's bytes.
+pub type OwnedCall = Call<Arrival<Vec<u8>>>;
 
 /// A call list as it was read.
 #[derive(Drop)]
@@ -19,9 +22,7 @@ pub struct Parsed {
     /// The calls up to the first line with a fault. `None` is a line whose datagram cannot be brought, as an identifier
     /// has more than 20 bytes, or it has more than 65,535: it is answered `refused 1`, as the input test comes before
     /// all others.
-    pub calls: Vec<Option<Call>>,
-    /// The bytes of their datagrams, one after another.
-    pub bytes: Vec<u8>,
+    pub calls: Vec<Option<OwnedCall>>,
     /// The fault that ends the list, if there is one.
     pub end: Option<Fault>,
 }
@@ -84,43 +85,30 @@ fn set_up(heap: Global, lines: &[Numbered]) -> Result<SetUp, Failure> {
     })
 }
 
-/// The set-up with the calls of these lines up to the first with a fault, the bytes of their datagrams, and the fault.
+/// The set-up with the calls of these lines up to the first with a fault, and the fault.
 fn with_calls(heap: Global, set_up: SetUp, lines: &[Numbered]) -> Result<Parsed, Failure>
-    ensures { IfOk result (λ p. AllByRecursion (Within (vec_len p.bytes)) p.calls.items) }
+    ensures { IfOk result (λ p. AllByRecursion Short p.calls.items) }
 {
     let mut calls = Vec::new(heap);
-    let mut bytes = Vec::new(heap);
     // A loop and not `try_collect`, since the calls before a fault are kept.
     for line in lines {
-        // Not by `read`: a proof does not know what its closure would leave in `bytes`.
         let words = parts(heap, line.text, ' ')?;
-        match call(heap, words.as_slice(), set_up.number, &mut bytes) {
+        match call(heap, words.as_slice(), set_up.number).map_err(|unread| unread.at(line.number)) {
             Ok(call) => calls.push(call)?,
-            Err(Failure::Fault(trouble)) => {
-                let line = line.number;
-                let end = Some(Fault { line, trouble });
-                return Ok(Parsed {
-                    set_up,
-                    calls,
-                    bytes,
-                    end,
-                });
+            Err(Failure::Fault(fault)) => {
+                let end = Some(fault);
+                return Ok(Parsed { set_up, calls, end });
             }
-            Err(unread) => return Err(unread.at(line.number)),
+            Err(failure) => return Err(failure),
         }
     }
     let end = None;
-    Ok(Parsed {
-        set_up,
-        calls,
-        bytes,
-        end,
-    })
+    Ok(Parsed { set_up, calls, end })
 }
 
 /// Reads a call list: its set-up, and its calls up to the first line with a fault.
 pub fn parse(heap: Global, text: &str) -> Result<Parsed, Failure>
-    ensures { IfOk result (λ p. AllByRecursion (Within (vec_len p.bytes)) p.calls.items) }
+    ensures { IfOk result (λ p. AllByRecursion Short p.calls.items) }
 {
     let lines = speaking(heap, text)?;
     let lines = lines.as_slice();

@@ -9,19 +9,22 @@ pub enum Brought {
     Foreign(u32, u32),
 }
 
-/// A datagram for `handle`: its bytes are `len` of the list's, from `at` on.
-#[derive(Clone, Copy)]
-pub struct Arrival {
+/// A datagram for `handle`, with its bytes, which it borrows or owns.
+#[derive(Clone, Copy, Drop)]
+pub struct Arrival<B> {
     pub datagram: Datagram,
-    pub at: usize,
-    pub len: usize,
+    pub bytes: B,
     /// Whether the output that is lent is one byte short.
     pub small: bool,
 }
 
 /// One call of a list.
-#[derive(Clone, Copy)]
-pub enum Call {
-    Handle(Arrival),
+// `A` is an arrival: an enum that held it in a field would get no proof where its bytes are borrowed.
+#[derive(Clone, Copy, Drop)]
+pub enum Call<A> {
+    Handle(A),
     Ignore(Brought),
 }
+
+/// A call that borrows its datagram's bytes.
+pub type LentCall<'a> = Call<Arrival<&'a [u8]>>;

@@ -12,30 +12,29 @@ use Rattle.model.specs.Runs as runs
 use Rattle.model.specs.Runs.{after, history}
 use Rattle.resets.specs.Bytes.{over}
 use Rattle.endpoint.specs.State.{View, config_of, supply_of, Frame}
-use Rattle.calls.specs.declared.call.Call as called
 use Rattle.calls.specs.declared.answer.Answer as said
 use Rattle.calls.specs.declared.answer.Answer.TheVariants.{Void}
-use Rattle.calls.specs.Lists.{call_of, answer_to}
+use Rattle.calls.specs.Lists.{LentCall, call_of, answer_to}
 use Rattle.run.specs.Pools.{all_none, Holds}
 use Rattle.run.specs.Steps.{outcome, Stepped}
 use Rattle.run.specs.Runs.{room_fits, no_call, calls_so, answer_at, answers_so, Built, world_so, Ran}
 
 -- there are as many calls as were made
-pub calls_so_length : (bytes : List ℕ) (calls : List called.Call) (n : ℕ) → length (calls_so bytes calls n) ≡ n
-calls_so_length bytes calls zero = refl
-calls_so_length bytes calls (suc n) = ap suc (calls_so_length bytes calls n)
+pub calls_so_length : (calls : List LentCall) (n : ℕ) → length (calls_so calls n) ≡ n
+calls_so_length calls zero = refl
+calls_so_length calls (suc n) = ap suc (calls_so_length calls n)
 
-module _ (bytes : List ℕ) (calls : List called.Call) (blocks : List (List ℕ)) (answers : List said.Answer) (i : ℕ) (b : List ℕ) (r : said.Answer) where
+module _ (calls : List LentCall) (blocks : List (List ℕ)) (answers : List said.Answer) (i : ℕ) (b : List ℕ) (r : said.Answer) where
   -- the answers to other calls stay
-  other_answer : (j : ℕ) → j ≢ i → answer_at bytes calls (set blocks i b) (set answers i r) j ≡ answer_at bytes calls blocks answers j
-  other_answer j ne = ap₂ (λ x y. answer_to bytes (get_or calls j no_call) x y) (get_or-set_other blocks i j b [] ne) (get_or-set_other answers i j r Void ne)
+  other_answer : (j : ℕ) → j ≢ i → answer_at calls (set blocks i b) (set answers i r) j ≡ answer_at calls blocks answers j
+  other_answer j ne = ap₂ (λ x y. answer_to (get_or calls j no_call) x y) (get_or-set_other blocks i j b [] ne) (get_or-set_other answers i j r Void ne)
 
-  earlier_answers : (n : ℕ) → n ≤ i → answers_so bytes calls (set blocks i b) (set answers i r) n ≡ answers_so bytes calls blocks answers n
+  earlier_answers : (n : ℕ) → n ≤ i → answers_so calls (set blocks i b) (set answers i r) n ≡ answers_so calls blocks answers n
   earlier_answers zero h = refl
   earlier_answers (suc n) h = let ne : n ≢ i = omega arith in ap₂ (λ x y. x ∷ y) (other_answer n ne) (earlier_answers n (omega arith))
 
-  this_answer : i < length blocks → i < length answers → answer_at bytes calls (set blocks i b) (set answers i r) i ≡ answer_to bytes (get_or calls i no_call) b r
-  this_answer h k = ap₂ (λ x y. answer_to bytes (get_or calls i no_call) x y) (get_or-set_same blocks i b [] h) (get_or-set_same answers i r Void k)
+  this_answer : i < length blocks → i < length answers → answer_at calls (set blocks i b) (set answers i r) i ≡ answer_to (get_or calls i no_call) b r
+  this_answer h k = ap₂ (λ x y. answer_to (get_or calls i no_call) x y) (get_or-set_same blocks i b [] h) (get_or-set_same answers i r Void k)
 
 -- the code's endpoint and suppliers are those of the definitions after the calls that were made
 pub record Fitting (E : runs.Endpoint) (u : Supplied) (w : runs.World) (e : View) (v : Supplied) : Type 0 where
@@ -97,22 +96,22 @@ holds_at E e pool slots is held = subst (λ n. Holds n pool slots) (sym is) held
 -- ## One call more
 
 -- where a list stands after its first i calls
-pub record Progress (E : runs.Endpoint) (bytes : List ℕ) (calls : List called.Call) (i : ℕ) (e : View) (u v : Supplied) (pool : List (Option Attempt))
+pub record Progress (E : runs.Endpoint) (calls : List LentCall) (i : ℕ) (e : View) (u v : Supplied) (pool : List (Option Attempt))
     (blocks blocks' : List (List ℕ)) (answers answers' : List said.Answer) : Type 0 where
-  pub ran : Ran E bytes calls i u v pool blocks blocks' answers answers'
-  pub state : e.state ≡ (world_so E bytes calls i).state
+  pub ran : Ran E calls i u v pool blocks blocks' answers answers'
+  pub state : e.state ≡ (world_so E calls i).state
 
-module _ (E : runs.Endpoint) (bytes : List ℕ) (calls : List called.Call) (i : ℕ) (e f : View) (u v v' : Supplied) (pool pool' : List (Option Attempt))
+module _ (E : runs.Endpoint) (calls : List LentCall) (i : ℕ) (e f : View) (u v v' : Supplied) (pool pool' : List (Option Attempt))
     (blocks blocks' : List (List ℕ)) (answers answers' : List said.Answer) (b : List ℕ) (r : said.Answer)
-    (fit : Fitting E u (world_so E bytes calls i) e v) (ran : Ran E bytes calls i u v pool blocks blocks' answers answers')
+    (fit : Fitting E u (world_so E calls i) e v) (ran : Ran E calls i u v pool blocks blocks' answers answers')
     (in_blocks : i < length blocks') (in_answers : i < length answers')
-    (stepped : Stepped e f v v' pool pool' (get_or blocks' i []) b bytes i (get_or calls i no_call) (world_so E bytes calls i).slots r
-    (outcome e v (world_so E bytes calls i).slots (call_of bytes (get_or calls i no_call)))) where
+    (stepped : Stepped e f v v' pool pool' (get_or blocks' i []) b i (get_or calls i no_call) (world_so E calls i).slots r
+    (outcome e v (world_so E calls i).slots (call_of (get_or calls i no_call)))) where
   abbrev w : runs.World
-  w = world_so E bytes calls i
+  w = world_so E calls i
 
   abbrev call : runs.Call
-  call = call_of bytes (get_or calls i no_call)
+  call = call_of (get_or calls i no_call)
 
   abbrev o : Outcome
   o = runs.outcome E.setup w call
@@ -121,45 +120,45 @@ module _ (E : runs.Endpoint) (bytes : List ℕ) (calls : List called.Call) (i : 
   is = same_outcome E u w e v fit call
 
   abbrev label : runs.Labelled
-  label = record { label = length (calls_so bytes calls i); call = call }
+  label = record { label = length (calls_so calls i); call = call }
 
-  world_more : world_so E bytes calls (suc i) ≡ runs.world_with w label o
+  world_more : world_so E calls (suc i) ≡ runs.world_with w label o
   unfolding after
   world_more = refl
 
   told : sealed (token_of v.signer) (outcome e v w.slots call).answer ≡ sealed (token_of E.signer) o.answer
   told = ap₂ (λ t x. sealed t x.answer) (same_token E u w e v fit) is
 
-  said_now : answer_to bytes (get_or calls i no_call) b r ≡ sealed (token_of E.signer) o.answer
+  said_now : answer_to (get_or calls i no_call) b r ≡ sealed (token_of E.signer) o.answer
   said_now = stepped.answer ∙ told
 
-  answered_more : answers_so bytes calls (set blocks' i b) (set answers' i r) (suc i) ≡ map (λ x. x.answer) (runs.history E (runs.labelled (calls_so bytes calls (suc i))))
+  answered_more : answers_so calls (set blocks' i b) (set answers' i r) (suc i) ≡ map (λ x. x.answer) (runs.history E (runs.labelled (calls_so calls (suc i))))
   unfolding history
   answered_more =
-      ap₂ (λ x y. x ∷ y) (this_answer bytes calls blocks' answers' i b r in_blocks in_answers ∙ said_now)
-      (earlier_answers bytes calls blocks' answers' i b r i (omega arith) ∙ ran.answered)
+      ap₂ (λ x y. x ∷ y) (this_answer calls blocks' answers' i b r in_blocks in_answers ∙ said_now)
+      (earlier_answers calls blocks' answers' i b r i (omega arith) ∙ ran.answered)
 
   drawn_more : v' ≡ spent (w.ids_used + o.ids_drawn) (w.bytes_used + o.bytes_drawn) u
   drawn_more =
       stepped.drawn ∙ ap₂ (λ x y. spent x.ids_drawn x.bytes_drawn y) is fit.drawn ∙ spent_add o.ids_drawn o.bytes_drawn w.ids_used w.bytes_used u
 
-  held_more : Holds E.setup.number pool' (runs.slots_after w.slots (length (calls_so bytes calls i)) call o.answer)
+  held_more : Holds E.setup.number pool' (runs.slots_after w.slots (length (calls_so calls i)) call o.answer)
   held_more =
-      subst (λ n. Holds n pool' (runs.slots_after w.slots (length (calls_so bytes calls i)) call o.answer)) fit.number
-      (subst (λ l. Holds e.number pool' (runs.slots_after w.slots l call o.answer)) (sym (calls_so_length bytes calls i))
+      subst (λ n. Holds n pool' (runs.slots_after w.slots (length (calls_so calls i)) call o.answer)) fit.number
+      (subst (λ l. Holds e.number pool' (runs.slots_after w.slots l call o.answer)) (sym (calls_so_length calls i))
       (subst (λ x. Holds e.number pool' (runs.slots_after w.slots i call x.answer)) is stepped.pool))
 
-  wrote_more : (j : ℕ) → j < suc i → get_or (set blocks' i b) j [] ≡ over (written (answer_at bytes calls (set blocks' i b) (set answers' i r) j)) (get_or blocks j [])
+  wrote_more : (j : ℕ) → j < suc i → get_or (set blocks' i b) j [] ≡ over (written (answer_at calls (set blocks' i b) (set answers' i r) j)) (get_or blocks j [])
   wrote_more j h = elim (cases_eq j i) [
-    | inl e' ↦ subst (λ n. get_or (set blocks' i b) n [] ≡ over (written (answer_at bytes calls (set blocks' i b) (set answers' i r) n)) (get_or blocks n [])) (sym e') here
+    | inl e' ↦ subst (λ n. get_or (set blocks' i b) n [] ≡ over (written (answer_at calls (set blocks' i b) (set answers' i r) n)) (get_or blocks n [])) (sym e') here
     | inr ne ↦
-        get_or-set_other blocks' i j b [] ne ∙ ran.wrote j (omega arith) ∙ ap (λ a. over (written a) (get_or blocks j [])) (sym (other_answer bytes calls blocks' answers' i b r j ne))
+        get_or-set_other blocks' i j b [] ne ∙ ran.wrote j (omega arith) ∙ ap (λ a. over (written a) (get_or blocks j [])) (sym (other_answer calls blocks' answers' i b r j ne))
   ]
     where
-      here : get_or (set blocks' i b) i [] ≡ over (written (answer_at bytes calls (set blocks' i b) (set answers' i r) i)) (get_or blocks i [])
+      here : get_or (set blocks' i b) i [] ≡ over (written (answer_at calls (set blocks' i b) (set answers' i r) i)) (get_or blocks i [])
       here =
           get_or-set_same blocks' i b [] in_blocks ∙ stepped.block
-          ∙ ap₂ (λ a x. over (written a) x) (told ∙ sym said_now ∙ sym (this_answer bytes calls blocks' answers' i b r in_blocks in_answers)) (ran.spared i (omega arith)).0
+          ∙ ap₂ (λ a x. over (written a) x) (told ∙ sym said_now ∙ sym (this_answer calls blocks' answers' i b r in_blocks in_answers)) (ran.spared i (omega arith)).0
 
   spared_more : (j : ℕ) → suc i ≤ j → (get_or (set blocks' i b) j [] ≡ get_or blocks j []) × (get_or (set answers' i r) j Void ≡ get_or answers j Void)
   spared_more j h =
@@ -167,15 +166,15 @@ module _ (E : runs.Endpoint) (bytes : List ℕ) (calls : List called.Call) (i : 
       let k : i ≤ j = omega arith in
       (get_or-set_other blocks' i j b [] ne ∙ (ran.spared j k).0, get_or-set_other answers' i j r Void ne ∙ (ran.spared j k).1)
 
-  progress_suc : Progress E bytes calls (suc i) f u v' pool' blocks (set blocks' i b) answers (set answers' i r)
+  progress_suc : Progress E calls (suc i) f u v' pool' blocks (set blocks' i b) answers (set answers' i r)
   unfolding after
   progress_suc = record {
     ran = record { answered = answered_more; drawn = drawn_more; held = held_more; wrote = wrote_more; spared = spared_more };
     state = stepped.state ∙ ap (λ x. x.state) is;
   }
 
-  pub progress_more : Progress E bytes calls (i + 1) f u v' pool' blocks (set blocks' i b) answers (set answers' i r)
-  progress_more = let k : suc i ≡ i + 1 = omega arith in subst (λ n. Progress E bytes calls n f u v' pool' blocks (set blocks' i b) answers (set answers' i r)) k progress_suc
+  pub progress_more : Progress E calls (i + 1) f u v' pool' blocks (set blocks' i b) answers (set answers' i r)
+  progress_more = let k : suc i ≡ i + 1 = omega arith in subst (λ n. Progress E calls n f u v' pool' blocks (set blocks' i b) answers (set answers' i r)) k progress_suc
 
 -- ## Before the first call
 
@@ -213,15 +212,15 @@ lent n pool blocks answers e =
     let c = and_parts (leb n answers) (all_none pool (length pool)) b.1 in
     record { places = leb-true n (length pool) a.0; outputs = leb-true n blocks b.0; records = leb-true n answers c.0; clear = pool_empty pool c.1 }
 
-pub progress_none : (E : runs.Endpoint) (bytes : List ℕ) (calls : List called.Call) (e : View) (u : Supplied) (pool : List (Option Attempt))
+pub progress_none : (E : runs.Endpoint) (calls : List LentCall) (e : View) (u : Supplied) (pool : List (Option Attempt))
     (blocks : List (List ℕ)) (answers : List said.Answer) → e.state ≡ new_state → ((k : ℕ) → get_or pool k None ≡ None) →
-    Progress E bytes calls 0 e u u pool blocks blocks answers answers
+    Progress E calls 0 e u u pool blocks blocks answers answers
 unfolding after history
-progress_none E bytes calls e u pool blocks answers fresh clear = record {
+progress_none E calls e u pool blocks answers fresh clear = record {
   ran = record { answered = refl; drawn = sym (spent_none u); held = clear; wrote = λ i h. absurd (omega arith); spared = λ i h. (refl, refl) };
   state = fresh;
 }
 
-pub ran_as : (E : runs.Endpoint) (bytes : List ℕ) (calls : List called.Call) (n m : ℕ) (u v : Supplied) (pool : List (Option Attempt)) (blocks blocks' : List (List ℕ)) (answers answers' : List said.Answer) →
-    n ≡ m → Ran E bytes calls n u v pool blocks blocks' answers answers' → Ran E bytes calls m u v pool blocks blocks' answers answers'
-ran_as E bytes calls n m u v pool blocks blocks' answers answers' e ran = subst (λ k. Ran E bytes calls k u v pool blocks blocks' answers answers') e ran
+pub ran_as : (E : runs.Endpoint) (calls : List LentCall) (n m : ℕ) (u v : Supplied) (pool : List (Option Attempt)) (blocks blocks' : List (List ℕ)) (answers answers' : List said.Answer) →
+    n ≡ m → Ran E calls n u v pool blocks blocks' answers answers' → Ran E calls m u v pool blocks blocks' answers answers'
+ran_as E calls n m u v pool blocks blocks' answers answers' e ran = subst (λ k. Ran E calls k u v pool blocks blocks' answers answers') e ran

@@ -1,12 +1,12 @@
 -- What one call of a list leaves in the pool, and what it answers.
-use Rattle.std.proofs.Common.{◌≡◌, ℕ, zero, suc, ◌<◌, Bool, true, false, cond, ◌&&◌, eqb, leb, List, length, get_or, take, drop, set, Some, None, Ok, Err, Option, Result, sym, refl, ap, ◌∙◌, subst, inl, inr, arith}
+use Rattle.std.proofs.Common.{◌≡◌, ℕ, zero, suc, ◌<◌, Bool, true, false, cond, ◌&&◌, eqb, leb, List, length, get_or, set, Some, None, Ok, Err, Option, Result, sym, refl, ap, ◌∙◌, subst, inl, inr, arith}
 use Rattle.std.proofs.lemmas.List.{get_or-set_same, get_or-set_other, get_or_past, set-set, set-get_or, length-set}
 use Rattle.std.proofs.lemmas.Bool.{cond-true, cond-false, cond_both, cases_eq, cases_lt, eqb-true, eqb-false, ne_eqb, and_left, and_right}
 use Rattle.records.specs.declared.cause.Cause.{Cause}
 use Rattle.records.specs.declared.packet.Close.{Close}
 use Rattle.records.specs.declared.incoming.Attempt.{Attempt}
 use Rattle.records.specs.Ids.{no_id}
-use Rattle.records.specs.Received.{Datagram, datagram_of}
+use Rattle.records.specs.Received.{Datagram}
 use Rattle.supply.specs.declared.answers.Unopened.TheVariants.{Closed}
 use Rattle.supply.specs.declared.answers.HandshakeError.TheVariants.{Other}
 use Rattle.supply.specs.Meaning.{Supplied, token_of}
@@ -23,13 +23,12 @@ use Rattle.endpoint.specs.State.{View, config_of, supply_of, Frame}
 use Rattle.endpoint.specs.Answers.{answer_of, Numbered, Answered}
 use Rattle.endpoint.specs.Ignoring.{Ignored, ignored_of, Back}
 use Rattle.endpoint.proofs.Answering.{same_frame}
-use Rattle.calls.specs.declared.call.Arrival.{Arrival}
 use Rattle.calls.specs.declared.call.Brought as code
 use Rattle.calls.specs.declared.call.Brought.TheVariants.{Opened, Foreign}
 use Rattle.calls.specs.declared.call.Call.TheVariants.{Handle, Ignore}
 use Rattle.calls.specs.declared.answer.Answer as said
 use Rattle.calls.specs.declared.answer.Answer.TheVariants as says
-use Rattle.calls.specs.Lists.{attempt_of, arrived, room_of, call_of, answer_to}
+use Rattle.calls.specs.Lists.{Lent, attempt_of, arrived, room_of, call_of, answer_to}
 use Rattle.run.specs.Pools.{all_none, Holds, StillEmpty, EmptyPast}
 use Rattle.run.specs.Steps.{outcome, Stepped, noted, pooled, Ignores}
 
@@ -140,73 +139,71 @@ holds_pooled number p i slots w H (Ok handled.Closed) is d out k = H
 holds_pooled number p i slots w H (Ok (handled.Reset n)) is d out k = H
 
 -- the plain value says what the answer says
-noted_as : (bytes : List ℕ) (a : Arrival) (out : List ℕ) (k : Close) (r : Result Handled Cause) → answer_to bytes (Handle a) out (noted r k) ≡ answer_of (arrived bytes a) out k r
-noted_as bytes a out k (Err c) = refl
-noted_as bytes a out k (Ok (handled.Delivered h)) = refl
-noted_as bytes a out k (Ok (handled.Kept s)) = refl
-noted_as bytes a out k (Ok (handled.Opened b o)) = refl
-noted_as bytes a out k (Ok handled.Closed) = refl
-noted_as bytes a out k (Ok (handled.Reset n)) = refl
+noted_as : (a : Lent) (out : List ℕ) (k : Close) (r : Result Handled Cause) → answer_to (Handle a) out (noted r k) ≡ answer_of (arrived a) out k r
+noted_as a out k (Err c) = refl
+noted_as a out k (Ok (handled.Delivered h)) = refl
+noted_as a out k (Ok (handled.Kept s)) = refl
+noted_as a out k (Ok (handled.Opened b o)) = refl
+noted_as a out k (Ok handled.Closed) = refl
+noted_as a out k (Ok (handled.Reset n)) = refl
 
 -- and a refusal is the same whatever the block
-refusal_noted : (bytes : List ℕ) (a : Arrival) (d : Datagram) (out block : List ℕ) (k : Close) (n : ℕ) (r : Result Handled Cause) → answer_of d out k r ≡ refused n →
-    answer_to bytes (Handle a) block (noted r k) ≡ refused n
-refusal_noted bytes a d out block k n (Err c) e = e
-refusal_noted bytes a d out block k n (Ok (handled.Delivered h)) e = e
-refusal_noted bytes a d out block k n (Ok (handled.Kept s)) e = e
-refusal_noted bytes a d out block k n (Ok (handled.Opened b o)) e = e
-refusal_noted bytes a d out block k n (Ok handled.Closed) e = e
-refusal_noted bytes a d out block k n (Ok (handled.Reset m)) e = let z : ◌≡◌ {A = ℕ} 0 1 = cc in absurd (omega arith)
+refusal_noted : (a : Lent) (d : Datagram) (out block : List ℕ) (k : Close) (n : ℕ) (r : Result Handled Cause) → answer_of d out k r ≡ refused n →
+    answer_to (Handle a) block (noted r k) ≡ refused n
+refusal_noted a d out block k n (Err c) e = e
+refusal_noted a d out block k n (Ok (handled.Delivered h)) e = e
+refusal_noted a d out block k n (Ok (handled.Kept s)) e = e
+refusal_noted a d out block k n (Ok (handled.Opened b o)) e = e
+refusal_noted a d out block k n (Ok handled.Closed) e = e
+refusal_noted a d out block k n (Ok (handled.Reset m)) e = let z : ◌≡◌ {A = ℕ} 0 1 = cc in absurd (omega arith)
 
--- the datagram's bytes, a part of the list's, are `got`; the plain value is s, and the pool after it p'
-module _ (e f : View) (u v : Supplied) (out out' : List ℕ) (k k' : Close) (r : Result Handled Cause) (bytes : List ℕ) (a : Arrival) (got : List ℕ)
-    (p p' : List (Option Attempt)) (i : ℕ) (s : said.Answer) (part : got ≡ take a.len (drop a.at bytes)) (w : i < length p)
+-- the plain value is s, and the pool after it p'
+module _ (e f : View) (u v : Supplied) (out out' : List ℕ) (k k' : Close) (r : Result Handled Cause) (a : Lent)
+    (p p' : List (Option Attempt)) (i : ℕ) (s : said.Answer) (w : i < length p)
     (says : s ≡ noted r k') (goes : p' ≡ pooled r p i) (slots : ℕ → Option ℕ) (H : Holds e.number p slots) where
-  -- the outcome of the datagram with these bytes and with so much room
-  abbrev came_to : List ℕ → ℕ → Outcome
-  came_to bs room = handle (config_of e u) (supply_of u) e.state (datagram_of a.datagram bs) room
+  -- the outcome of the datagram with so much room
+  abbrev came_to : ℕ → Outcome
+  came_to room = handle (config_of e u) (supply_of u) e.state (arrived a) room
 
-  -- the datagram with these bytes had this outcome
-  abbrev As : List ℕ → Outcome → Type 0
-  As bs o = Answered e f u v out out' k k' (datagram_of a.datagram bs) r o
+  -- the datagram had this outcome
+  abbrev As : Outcome → Type 0
+  As o = Answered e f u v out out' k k' (arrived a) r o
 
   -- the pool holds the slots after it
-  handled_pool : (o : Outcome) → As (take a.len (drop a.at bytes)) o → Holds e.number p' (slots_after slots i (call_of bytes (Handle a)) o.answer)
+  handled_pool : (o : Outcome) → As o → Holds e.number p' (slots_after slots i (call_of (Handle a)) o.answer)
   handled_pool o A j =
-      let d = arrived bytes a in
+      let d = arrived a in
       let slot : opened_slot (answer_of d out' k' r) ≡ opened_slot o.answer = ap opened_slot A.answer ∙ opens_sealed (token_of u.signer) o.answer in
       ap (λ q. get_or q j None) goes ∙ holds_pooled e.number p i slots w H r A.number d out' k' j
       ∙ ap (in_hand e.number) (ap (λ x. put_slot slots i x j) slot ∙ sym (put_as slots (spent_by o.answer) i (opened_slot o.answer) j))
 
   -- the whole block is lent
-  pub handled_whole : a.small ≡ false → length out ≡ 1500 → As got (came_to got (length out)) →
-      Stepped e f u v p p' out out' bytes i (Handle a) slots s (outcome e u slots (call_of bytes (Handle a)))
+  pub handled_whole : a.small ≡ false → length out ≡ 1500 → As (came_to (length out)) →
+      Stepped e f u v p p' out out' i (Handle a) slots s (outcome e u slots (call_of (Handle a)))
   unfolding outcome_of
   handled_whole large long A =
-      let xs = take a.len (drop a.at bytes) in
       let room : length out ≡ room_of a = long ∙ sym (cond-false a.small 1499 1500 large) in
-      let B : As xs (came_to xs (room_of a)) = subst (λ n. As xs (came_to xs n)) room (subst (λ bs. As bs (came_to bs (length out))) part A) in
+      let B : As (came_to (room_of a)) = subst (λ n. As (came_to n)) room A in
       record {
-        answer = ap (answer_to bytes (Handle a) out') says ∙ noted_as bytes a out' k' r ∙ B.answer;
+        answer = ap (answer_to (Handle a) out') says ∙ noted_as a out' k' r ∙ B.answer;
         state = B.state;
         drawn = B.drawn;
-        pool = handled_pool (came_to xs (room_of a)) B;
+        pool = handled_pool (came_to (room_of a)) B;
         block = B.output;
         frame = B.frame;
       }
 
   -- one byte less is lent, and the block is as it was
-  pub handled_short : (block : List ℕ) → a.small ≡ true → length out ≡ 1499 → As got (came_to got (length out)) →
-      Stepped e f u v p p' block block bytes i (Handle a) slots s (outcome e u slots (call_of bytes (Handle a)))
+  pub handled_short : (block : List ℕ) → a.small ≡ true → length out ≡ 1499 → As (came_to (length out)) →
+      Stepped e f u v p p' block block i (Handle a) slots s (outcome e u slots (call_of (Handle a)))
   unfolding outcome_of
   handled_short block small long A =
-      let xs = take a.len (drop a.at bytes) in
       let o = gives (refused 1) e.state in
-      let refuses : (n : ℕ) → n ≡ 1499 → came_to xs n ≡ o = λ n is. cond-false (fits (config_of e u) (arrived bytes a) n) _ _ (and_right _ _ (ap (leb 1500) is)) in
-      let B : As xs o = subst (As xs) (refuses (length out) long) (subst (λ bs. As bs (came_to bs (length out))) part A) in
-      subst (Stepped e f u v p p' block block bytes i (Handle a) slots s) (sym (refuses (room_of a) (cond-true a.small 1499 1500 small)))
+      let refuses : (n : ℕ) → n ≡ 1499 → came_to n ≡ o = λ n is. cond-false (fits (config_of e u) (arrived a) n) _ _ (and_right _ _ (ap (leb 1500) is)) in
+      let B : As o = subst As (refuses (length out) long) A in
+      subst (Stepped e f u v p p' block block i (Handle a) slots s) (sym (refuses (room_of a) (cond-true a.small 1499 1500 small)))
       (record {
-        answer = ap (answer_to bytes (Handle a) block) says ∙ refusal_noted bytes a (arrived bytes a) out' block k' 1 r B.answer;
+        answer = ap (answer_to (Handle a) block) says ∙ refusal_noted a (arrived a) out' block k' 1 r B.answer;
         state = B.state;
         drawn = B.drawn;
         pool = handled_pool o B;
@@ -220,8 +217,8 @@ module _ (e f : View) (u v : Supplied) (out out' : List ℕ) (k k' : Close) (r :
 pub voids : (e : View) (p p' : List (Option Attempt)) (b : code.Brought) → p' ≡ p →
     ((slots : ℕ → Option ℕ) → Holds e.number p slots → incoming e.number slots (attempt_of b) ≡ None) → Ignores e e p p' b says.Void
 unfolding outcome_of
-voids e p p' b same none u block bytes i slots H =
-    subst (Stepped e e u u p p' block block bytes i (Ignore b) slots says.Void)
+voids e p p' b same none u block i slots H =
+    subst (Stepped e e u u p p' block block i (Ignore b) slots says.Void)
     (sym (ap (with_attempt e.state (λ a. ignore (config_of e u) e.state a)) (none slots H)))
     (record { answer = refl; state = refl; drawn = sym (spent_none u); pool = subst (λ q. Holds e.number q slots) (sym same) H; block = refl; frame = same_frame e })
 
@@ -235,9 +232,9 @@ said_of (Ok x) = says.Ignored
 said_of (Err b) = says.Refused b.cause
 
 -- it says what the answer says
-said_as : {A : Type 0} (bytes : List ℕ) (b : code.Brought) (block : List ℕ) (r : Result A HandedBack) → answer_to bytes (Ignore b) block (said_of r) ≡ ignored_of r
-said_as bytes b block (Ok x) = refl
-said_as bytes b block (Err h) = refl
+said_as : {A : Type 0} (b : code.Brought) (block : List ℕ) (r : Result A HandedBack) → answer_to (Ignore b) block (said_of r) ≡ ignored_of r
+said_as b block (Ok x) = refl
+said_as b block (Err h) = refl
 
 module _ {A : Type 0} (e f : View) (p p' : List (Option Attempt)) (b : code.Brought) (a : Attempt) (r : Result A HandedBack) where
   -- the pool after it
@@ -246,18 +243,18 @@ module _ {A : Type 0} (e f : View) (p p' : List (Option Attempt)) (b : code.Brou
       Holds e.number p' (slots_after slots i (runs.ignores (attempt_of b)) (ignore_of e.state m).answer)
 
   -- the call had its outcome, whichever attempt waits
-  ignored_by : Leaves → (u : Supplied) (block bytes : List ℕ) (i : ℕ) (slots : ℕ → Option ℕ) (m : Option Waiting) → Ignored e f a r (ignore_of e.state m) →
-      Holds e.number p slots → Stepped e f u u p p' block block bytes i (Ignore b) slots (said_of r) (ignore_of e.state m)
-  ignored_by L u block bytes i slots None I H = record {
-    answer = said_as bytes b block r ∙ I.answer;
+  ignored_by : Leaves → (u : Supplied) (block : List ℕ) (i : ℕ) (slots : ℕ → Option ℕ) (m : Option Waiting) → Ignored e f a r (ignore_of e.state m) →
+      Holds e.number p slots → Stepped e f u u p p' block block i (Ignore b) slots (said_of r) (ignore_of e.state m)
+  ignored_by L u block i slots None I H = record {
+    answer = said_as b block r ∙ I.answer;
     state = I.state;
     drawn = sym (spent_none u);
     pool = L i slots None I.answer I.back H;
     block = refl;
     frame = I.frame;
   }
-  ignored_by L u block bytes i slots (Some w) I H = record {
-    answer = said_as bytes b block r ∙ I.answer;
+  ignored_by L u block i slots (Some w) I H = record {
+    answer = said_as b block r ∙ I.answer;
     state = I.state;
     drawn = sym (spent_none u);
     pool = L i slots (Some w) I.answer I.back H;
@@ -269,10 +266,10 @@ module _ {A : Type 0} (e f : View) (p p' : List (Option Attempt)) (b : code.Brou
   pub ignores : ((slots : ℕ → Option ℕ) → Holds e.number p slots → incoming e.number slots (attempt_of b) ≡ Some a) → Leaves →
       ((u : Supplied) → Ignored e f a r (ignore (config_of e u) e.state a)) → Ignores e f p p' b (said_of r)
   unfolding outcome_of
-  ignores some L I u block bytes i slots H =
-      subst (Stepped e f u u p p' block block bytes i (Ignore b) slots (said_of r))
+  ignores some L I u block i slots H =
+      subst (Stepped e f u u p p' block block i (Ignore b) slots (said_of r))
       (sym (ap (with_attempt e.state (λ x. ignore (config_of e u) e.state x)) (some slots H)))
-      (ignored_by L u block bytes i slots (brought (config_of e u) e.state a) (I u) H)
+      (ignored_by L u block i slots (brought (config_of e u) e.state a) (I u) H)
 
 -- suppliers that give nothing
 abbrev nothing : Supplied

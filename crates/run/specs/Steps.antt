@@ -12,12 +12,11 @@ use Rattle.records.specs.declared.packet.Close.{Close}
 use Rattle.endpoint.specs.declared.handled.Handled.{Handled}
 use Rattle.endpoint.specs.declared.handled.Handled.TheVariants as handled
 use Rattle.endpoint.specs.State.{View, config_of, supply_of, Frame}
-use Rattle.calls.specs.declared.call.Call as called
 use Rattle.calls.specs.declared.call.Call.TheVariants.{Ignore}
 use Rattle.calls.specs.declared.call.Brought as code
 use Rattle.calls.specs.declared.answer.Answer as said
 use Rattle.calls.specs.declared.answer.Answer.TheVariants as says
-use Rattle.calls.specs.Lists.{call_of, answer_to}
+use Rattle.calls.specs.Lists.{LentCall, call_of, answer_to}
 use Rattle.run.specs.Pools.{Holds}
 
 -- what a call has as its outcome, the host holding the attempts of these slots
@@ -25,11 +24,11 @@ abbrev pub outcome : View → Supplied → (ℕ → Option ℕ) → runs.Call �
 outcome e u slots call = runs.outcome_of (config_of e u) (supply_of u) e.state slots call
 
 -- the call of number i had the outcome o: its answer, the state, what was drawn, the attempts in the host's hands, and its block of output
-pub record Stepped (e f : View) (u v : Supplied) (p p' : List (Option Attempt)) (b b' : List ℕ) (bytes : List ℕ) (i : ℕ) (call : called.Call) (slots : ℕ → Option ℕ) (r : said.Answer) (o : Outcome) : Type 0 where
-  pub answer : answer_to bytes call b' r ≡ sealed (token_of u.signer) o.answer
+pub record Stepped (e f : View) (u v : Supplied) (p p' : List (Option Attempt)) (b b' : List ℕ) (i : ℕ) (call : LentCall) (slots : ℕ → Option ℕ) (r : said.Answer) (o : Outcome) : Type 0 where
+  pub answer : answer_to call b' r ≡ sealed (token_of u.signer) o.answer
   pub state : f.state ≡ o.state
   pub drawn : v ≡ spent o.ids_drawn o.bytes_drawn u
-  pub pool : Holds e.number p' (runs.slots_after slots i (call_of bytes call) o.answer)
+  pub pool : Holds e.number p' (runs.slots_after slots i (call_of call) o.answer)
   pub block : b' ≡ over (written (sealed (token_of u.signer) o.answer)) b
   pub frame : Frame e f
 
@@ -54,5 +53,5 @@ pooled (Ok (handled.Reset n)) pool i = pool
 -- an `ignore` of a list, whatever the suppliers, the block and the number of the call
 abbrev pub Ignores : View → View → List (Option Attempt) → List (Option Attempt) → code.Brought → said.Answer → Type 0
 Ignores e f pool pool' b r =
-    (u : Supplied) (block bytes : List ℕ) (i : ℕ) (slots : ℕ → Option ℕ) → Holds e.number pool slots →
-    Stepped e f u u pool pool' block block bytes i (Ignore b) slots r (outcome e u slots (call_of bytes (Ignore b)))
+    (u : Supplied) (block : List ℕ) (i : ℕ) (slots : ℕ → Option ℕ) → Holds e.number pool slots →
+    Stepped e f u u pool pool' block block i (Ignore b) slots r (outcome e u slots (call_of (Ignore b)))

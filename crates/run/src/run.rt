@@ -10,7 +10,7 @@ ghost use Rattle.run.specs.Runs.{Built, Ran, calls_so, world_so, room_fits};
 use crate::pool::is_clear;
 use crate::step::step;
 use calls::answer::Answer;
-use calls::call::Call;
+use calls::call::LentCall;
 use endpoint::endpoint::Endpoint;
 use endpoint::memory::Memory;
 use records::config::Settings;
@@ -21,8 +21,7 @@ use supply::suppliers::Supplies;
 fn run_all<S: Supplies>(
     e: &mut Endpoint,
     supplies: &mut S,
-    calls: &[Call],
-    bytes: &[u8],
+    calls: &[LentCall],
     pool: &mut [Option<Attempt>],
     blocks: &mut [[u8; 1500]],
     answers: &mut [Answer],
@@ -31,12 +30,11 @@ fn run_all<S: Supplies>(
     requires new { (view e.old).state ≡ new_state }
     requires room { room_fits (length calls.now) pool.old (length blocks.old) (length answers.old) ≡ true }
     ensures ready { (view e.new).ready ≡ true }
-    ensures ran { (E : Modelled) → Built E (view e.old).settings (view e.old).width (view e.old).number (S.all supplies.old) → Ran E bytes.now calls.now (length calls.now) (S.all supplies.old) (S.all supplies.new) pool.new blocks.old blocks.new answers.old answers.new }
-    ensures state { (E : Modelled) → Built E (view e.old).settings (view e.old).width (view e.old).number (S.all supplies.old) → (view e.new).state ≡ (world_so E bytes.now calls.now (length calls.now)).state }
+    ensures ran { (E : Modelled) → Built E (view e.old).settings (view e.old).width (view e.old).number (S.all supplies.old) → Ran E calls.now (length calls.now) (S.all supplies.old) (S.all supplies.new) pool.new blocks.old blocks.new answers.old answers.new }
+    ensures state { (E : Modelled) → Built E (view e.old).settings (view e.old).width (view e.old).number (S.all supplies.old) → (view e.new).state ≡ (world_so E calls.now (length calls.now)).state }
 {
-    for i in 0..calls.len() {
-        let answer = step(e, supplies, pool, &mut blocks[i], bytes, i, calls[i]);
-        answers[i] = answer;
+    for (i, call) in calls.iter().enumerate() {
+        answers[i] = step(e, supplies, pool, &mut blocks[i], i, call);
     }
 }
 
@@ -44,8 +42,7 @@ fn run_all<S: Supplies>(
 fn run_ready<S: Supplies>(
     e: &mut Endpoint,
     supplies: &mut S,
-    calls: &[Call],
-    bytes: &[u8],
+    calls: &[LentCall],
     pool: &mut [Option<Attempt>],
     blocks: &mut [[u8; 1500]],
     answers: &mut [Answer],
@@ -54,12 +51,12 @@ fn run_ready<S: Supplies>(
     requires room { (view e.old).ready ≡ true → room_fits (length calls.now) pool.old (length blocks.old) (length answers.old) ≡ true }
     ensures ready { (view e.new).ready ≡ (view e.old).ready }
     ensures refused { (view e.old).ready ≡ false → (S.all supplies.new ≡ S.all supplies.old) × (pool.new ≡ pool.old) × (blocks.new ≡ blocks.old) × (answers.new ≡ answers.old) }
-    ensures ran { (view e.old).ready ≡ true → (E : Modelled) → Built E (view e.old).settings (view e.old).width (view e.old).number (S.all supplies.old) → Ran E bytes.now calls.now (length calls.now) (S.all supplies.old) (S.all supplies.new) pool.new blocks.old blocks.new answers.old answers.new × ((view e.new).state ≡ (world_so E bytes.now calls.now (length calls.now)).state) }
+    ensures ran { (view e.old).ready ≡ true → (E : Modelled) → Built E (view e.old).settings (view e.old).width (view e.old).number (S.all supplies.old) → Ran E calls.now (length calls.now) (S.all supplies.old) (S.all supplies.new) pool.new blocks.old blocks.new answers.old answers.new × ((view e.new).state ≡ (world_so E calls.now (length calls.now)).state) }
 {
     if !e.is_ready() {
         return;
     }
-    run_all(e, supplies, calls, bytes, pool, blocks, answers);
+    run_all(e, supplies, calls, pool, blocks, answers);
 }
 
 // No place for a datagram where the host does not lend enough, so that the set-up is refused.
@@ -85,18 +82,17 @@ pub fn run<'a, S: Supplies>(
     settings: Settings,
     w: usize,
     number: u32,
-    calls: &[Call],
-    bytes: &[u8],
+    calls: &[LentCall],
     pool: &mut [Option<Attempt>],
     blocks: &mut [[u8; 1500]],
     answers: &mut [Answer],
 ) -> Endpoint<'a>
     ensures taken { (view result).ready ≡ (room_fits (length calls.now) pool.old (length blocks.old) (length answers.old) && set_up_fits settings.max_incoming w (sizes_of memory.entry)) }
     ensures refused { (view result).ready ≡ false → (S.all supplies.new ≡ S.all supplies.old) × (pool.new ≡ pool.old) × (blocks.new ≡ blocks.old) × (answers.new ≡ answers.old) }
-    ensures ran { (view result).ready ≡ true → (E : Modelled) × Built E settings w number (S.all supplies.old) × Ran E bytes.now calls.now (length calls.now) (S.all supplies.old) (S.all supplies.new) pool.new blocks.old blocks.new answers.old answers.new × ((view result).state ≡ (world_so E bytes.now calls.now (length calls.now)).state) × EndpointLaws E (calls_so bytes.now calls.now (length calls.now)) }
+    ensures ran { (view result).ready ≡ true → (E : Modelled) × Built E settings w number (S.all supplies.old) × Ran E calls.now (length calls.now) (S.all supplies.old) (S.all supplies.new) pool.new blocks.old blocks.new answers.old answers.new × ((view result).state ≡ (world_so E calls.now (length calls.now)).state) × EndpointLaws E (calls_so calls.now (length calls.now)) }
 {
     let fits = room_fits(calls.len(), pool, blocks.len(), answers.len());
     let mut e = Endpoint::new(memory, settings, places_for(fits, w), number);
-    run_ready(&mut e, supplies, calls, bytes, pool, blocks, answers);
+    run_ready(&mut e, supplies, calls, pool, blocks, answers);
     e
 }

@@ -1,4 +1,4 @@
-ghost use Rattle.std.specs.Prelude.{◌≡◌, ℕ, ◌<◌, true, List, length, take as front, drop, None, Option as OptionOf, slice_index_or};
+ghost use Rattle.std.specs.Prelude.{◌≡◌, ℕ, ◌<◌, true, length, None, Option as OptionOf, slice_index_or};
 ghost use Rattle.calls.specs.declared.call.Call.TheVariants.{Handle};
 ghost use Rattle.calls.specs.declared.call.Brought.TheVariants.{Opened, Foreign};
 ghost use Rattle.calls.specs.Lists.{call_of};
@@ -8,7 +8,7 @@ ghost use Rattle.run.specs.Steps.{outcome, Stepped, noted, pooled, Ignores};
 
 use crate::pool::{put, take};
 use calls::answer::Answer;
-use calls::call::{Arrival, Brought, Call};
+use calls::call::{Arrival, Brought, Call, LentCall};
 use endpoint::endpoint::Endpoint;
 use endpoint::handled::{HandedBack, Handled};
 use records::address::FourTuple;
@@ -33,23 +33,8 @@ fn blank_close() -> Close {
     }
 }
 
-/// Up to `len` of the bytes from `at` on.
-fn part_of(bytes: &[u8], at: usize, len: usize) -> &[u8]
-    ensures { result.now ≡ front len (drop at bytes.now) }
-{
-    let n = bytes.len();
-    let from = at.min(n);
-    let to = from + len.min(n - from);
-    &bytes[from..to]
-}
-
 // What `handle` says, as a plain value; an attempt goes to the pool.
-fn note(
-    handled: Result<Handled, Cause>,
-    close: Close,
-    pool: &mut [Option<Attempt>],
-    i: usize,
-) -> Answer
+fn note(handled: Result<Handled, Cause>, close: Close, pool: &mut [Option<Attempt>], i: usize) -> Answer
     requires within { i < length pool.old }
     requires free { slice_index_or pool.old i None ≡ None }
     ensures answer { result ≡ noted handled close }
@@ -74,22 +59,20 @@ fn handle_at<S: Supplies>(
     supplies: &mut S,
     pool: &mut [Option<Attempt>],
     block: &mut [u8; 1500],
-    bytes: &[u8],
     i: usize,
-    arrival: Arrival,
+    arrival: &Arrival<&[u8]>,
 ) -> Answer
     requires ready { (view e.old).ready ≡ true }
     requires within { i < length pool.old }
     requires free { slice_index_or pool.old i None ≡ None }
-    ensures stepped { (slots : ℕ → OptionOf ℕ) → Holds (view e.old).number pool.old slots → Stepped (view e.old) (view e.new) (S.all supplies.old) (S.all supplies.new) pool.old pool.new block.old block.new bytes.now i (Handle arrival) slots result (outcome (view e.old) (S.all supplies.old) slots (call_of bytes.now (Handle arrival))) }
+    ensures stepped { (slots : ℕ → OptionOf ℕ) → Holds (view e.old).number pool.old slots → Stepped (view e.old) (view e.new) (S.all supplies.old) (S.all supplies.new) pool.old pool.new block.old block.new i (Handle arrival.now) slots result (outcome (view e.old) (S.all supplies.old) slots (call_of (Handle arrival.now))) }
     ensures later { EmptyPast i pool.old pool.new }
     ensures frame { Frame (view e.old) (view e.new) }
 {
     let mut close = blank_close();
-    let data = part_of(bytes, arrival.at, arrival.len);
     let received = Received {
         datagram: &arrival.datagram,
-        bytes: data,
+        bytes: arrival.bytes,
     };
     if arrival.small {
         let mut short = [0; 1499];
@@ -158,19 +141,18 @@ pub(crate) fn step<S: Supplies>(
     supplies: &mut S,
     pool: &mut [Option<Attempt>],
     block: &mut [u8; 1500],
-    bytes: &[u8],
     i: usize,
-    call: Call,
+    call: &LentCall,
 ) -> Answer
     requires ready { (view e.old).ready ≡ true }
     requires within { i < length pool.old }
     requires free { slice_index_or pool.old i None ≡ None }
-    ensures stepped { (slots : ℕ → OptionOf ℕ) → Holds (view e.old).number pool.old slots → Stepped (view e.old) (view e.new) (S.all supplies.old) (S.all supplies.new) pool.old pool.new block.old block.new bytes.now i call slots result (outcome (view e.old) (S.all supplies.old) slots (call_of bytes.now call)) }
+    ensures stepped { (slots : ℕ → OptionOf ℕ) → Holds (view e.old).number pool.old slots → Stepped (view e.old) (view e.new) (S.all supplies.old) (S.all supplies.new) pool.old pool.new block.old block.new i call.now slots result (outcome (view e.old) (S.all supplies.old) slots (call_of call.now)) }
     ensures later { EmptyPast i pool.old pool.new }
     ensures frame { Frame (view e.old) (view e.new) }
 {
     match call {
-        Call::Handle(arrival) => handle_at(e, supplies, pool, block, bytes, i, arrival),
-        Call::Ignore(brought) => ignore_at(e, pool, brought),
+        Call::Handle(arrival) => handle_at(e, supplies, pool, block, i, arrival),
+        Call::Ignore(brought) => ignore_at(e, pool, *brought),
     }
 }

@@ -1,9 +1,9 @@
 use crate::memory::Storage;
 use call_list::answer::answer_line;
-use call_list::list::Parsed;
+use call_list::list::{OwnedCall, Parsed};
 use call_list::set_up::SetUp;
 use calls::answer::Answer;
-use calls::call::{Arrival, Call};
+use calls::call::{Arrival, Call, LentCall};
 use records::cause::Cause;
 use records::config::Settings;
 use records::incoming::Attempt;
@@ -20,6 +20,7 @@ use supply::suppliers::Suppliers;
 type Four = Suppliers<ListGenerator, Recorded, XorKey, RowDoor>;
 
 // A line that cannot be brought is a datagram without bytes: it is refused by 1 as well.
+<<<<<<< HEAD
 fn call_of(line: &Option<Call>) -> Call {
     line.unwrap_or(Call::Handle(Arrival {
         datagram: Datagram::default(),
@@ -27,6 +28,22 @@ fn call_of(line: &Option<Call>) -> Call {
         len: 0,
         small: false,
     }))
+=======
+fn lent(line: &Option<OwnedCall>) -> LentCall<'_> {
+    match line {
+        None => Call::Handle(Arrival {
+            datagram: no_datagram(),
+            bytes: &[],
+            small: false,
+        }),
+        Some(Call::Handle(arrival)) => Call::Handle(Arrival {
+            datagram: arrival.datagram,
+            bytes: arrival.bytes.as_slice(),
+            small: arrival.small,
+        }),
+        Some(Call::Ignore(brought)) => Call::Ignore(*brought),
+    }
+>>>>>>> 993f9a9937098c37fb355b2a6cfe8654294fe42a
 }
 
 fn suppliers_of(
@@ -85,8 +102,7 @@ fn run_list(
     places: usize,
     number: u32,
     settings: Settings,
-    calls: &[Call],
-    bytes: &[u8],
+    calls: &[LentCall],
 ) -> Result<Option<Left>, AllocError> {
     let n = calls.len();
     let mut blocks = vec![in heap; [0; 1500]; n]?;
@@ -101,7 +117,6 @@ fn run_list(
         places,
         number,
         calls,
-        bytes,
         pool.as_mut_slice(),
         blocks.as_mut_slice(),
         answers.as_mut_slice(),
@@ -113,7 +128,11 @@ fn run_list(
 }
 
 // One line of text for each call.
-fn lines_of(heap: Global, lines: &[Option<Call>], left: &Left) -> Result<Vec<String>, AllocError> {
+fn lines_of(
+    heap: Global,
+    lines: &[Option<OwnedCall>],
+    left: &Left,
+) -> Result<Vec<String>, AllocError> {
     let outputs = left.answers.iter().zip(left.blocks.iter());
     lines
         .iter()
@@ -128,7 +147,6 @@ pub fn answers_of(heap: Global, parsed: Parsed) -> Result<Option<Vec<String>>, A
     let Parsed {
         set_up,
         calls: lines,
-        bytes,
         end: _,
     } = parsed;
     let SetUp {
@@ -140,19 +158,11 @@ pub fn answers_of(heap: Global, parsed: Parsed) -> Result<Option<Vec<String>>, A
         key,
         rows,
     } = set_up;
-    let calls: Vec<Call> = lines.iter().map(call_of).collect(heap)?;
+    let calls: Vec<LentCall> = lines.iter().map(lent).collect(heap)?;
     let Ok(mut four) = suppliers_of(ids.as_slice(), recorded, key, rows.as_slice()) else {
         return Ok(None);
     };
-    let left = run_list(
-        heap,
-        &mut four,
-        places,
-        number,
-        settings,
-        calls.as_slice(),
-        bytes.as_slice(),
-    )?;
+    let left = run_list(heap, &mut four, places, number, settings, calls.as_slice())?;
     let Some(left) = left else {
         return Ok(None);
     };

@@ -1,4 +1,4 @@
-use Rattle.std.proofs.Common.{◌≡◌, ap, ◌∙◌, rules}
+use Rattle.std.proofs.Common.{ap, ◌∙◌}
 use Rattle.std.specs.Net.Addr.{octets_of}
 use Rattle.call_list.proofs.Octets.{octets_back}
 use Rattle.call_list.proofs.address.ipv6_of.Goals as goal

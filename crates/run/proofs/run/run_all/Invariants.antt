@@ -12,4 +12,4 @@ invariant-loop-i g l =
     Frame (view l.initial.e) (view l.e)
     × ((k : ℕ) → l.i ≤ k → get_or l.pool k None ≡ None)
     × ((E : runs.Endpoint) → Built E (view l.initial.e).settings (view l.initial.e).width (view l.initial.e).number u →
-    Progress E l.bytes l.calls l.i (view l.e) u (all l.supplies) l.pool l.initial.blocks l.blocks l.initial.answers l.answers)
+    Progress E l.calls l.i (view l.e) u (all l.supplies) l.pool l.initial.blocks l.blocks l.initial.answers l.answers)

@@ -11,7 +11,7 @@ returns-then-arrival g c =
       stepped = λ slots H.
           handled_short (view c.args.e.now) (view c.handle-handled.new.self) (g.S.Supplies.all c.args.supplies.now) (g.S.Supplies.all c.handle-handled.new.supplies)
           (replicate 1499 0) c.handle-handled.new.out c.blank_close-close.result c.handle-handled.new.close r
-          c.args.bytes.now c.args.arrival c.part_of-data.result.now p c.note.new.pool c.args.i c.note.result c.part_of-data.ensures c.requires.within
+          c.args.arrival.now p c.note.new.pool c.args.i c.note.result c.requires.within
           c.note.ensures.answer c.note.ensures.pool slots H c.args.block.now c.if-arrival.true refl (c.handle-handled.ensures.answered c.requires.ready);
       later = past_pooled r p c.args.i c.note.ensures.pool;
       frame = (c.handle-handled.ensures.answered c.requires.ready).frame;
@@ -25,7 +25,7 @@ returns g c =
       stepped = λ slots H.
           handled_whole (view c.args.e.now) (view c.handle-handled-2.new.self) (g.S.Supplies.all c.args.supplies.now) (g.S.Supplies.all c.handle-handled-2.new.supplies)
           c.args.block.now c.handle-handled-2.new.out c.blank_close-close.result c.handle-handled-2.new.close r
-          c.args.bytes.now c.args.arrival c.part_of-data.result.now p c.note-2.new.pool c.args.i c.note-2.result c.part_of-data.ensures c.requires.within
+          c.args.arrival.now p c.note-2.new.pool c.args.i c.note-2.result c.requires.within
           c.note-2.ensures.answer c.note-2.ensures.pool slots H c.if-arrival.false c.told-block (c.handle-handled-2.ensures.answered c.requires.ready);
       later = past_pooled r p c.args.i c.note-2.ensures.pool;
       frame = (c.handle-handled-2.ensures.answered c.requires.ready).frame;
