@@ -34,7 +34,12 @@ fn blank_close() -> Close {
 }
 
 // What `handle` says, as a plain value; an attempt goes to the pool.
-fn note(handled: Result<Handled, Cause>, close: Close, pool: &mut [Option<Attempt>], i: usize) -> Answer
+fn note(
+    handled: Result<Handled, Cause>,
+    close: Close,
+    pool: &mut [Option<Attempt>],
+    i: usize,
+) -> Answer
     requires within { i < length pool.old }
     requires free { slice_index_or pool.old i None ≡ None }
     ensures answer { result ≡ noted handled close }

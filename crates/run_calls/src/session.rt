@@ -20,19 +20,10 @@ use supply::suppliers::Suppliers;
 type Four = Suppliers<ListGenerator, Recorded, XorKey, RowDoor>;
 
 // A line that cannot be brought is a datagram without bytes: it is refused by 1 as well.
-<<<<<<< HEAD
-fn call_of(line: &Option<Call>) -> Call {
-    line.unwrap_or(Call::Handle(Arrival {
-        datagram: Datagram::default(),
-        at: 0,
-        len: 0,
-        small: false,
-    }))
-=======
 fn lent(line: &Option<OwnedCall>) -> LentCall<'_> {
     match line {
         None => Call::Handle(Arrival {
-            datagram: no_datagram(),
+            datagram: Datagram::default(),
             bytes: &[],
             small: false,
         }),
@@ -43,7 +34,6 @@ fn lent(line: &Option<OwnedCall>) -> LentCall<'_> {
         }),
         Some(Call::Ignore(brought)) => Call::Ignore(*brought),
     }
->>>>>>> 993f9a9937098c37fb355b2a6cfe8654294fe42a
 }
 
 fn suppliers_of(
