@@ -3,6 +3,7 @@ use records::packet::Close;
 use supply::answers::Opening;
 
 /// The answer to one call of a list; the bytes of a reset stand in the call's own block of output.
+// One enum and no Result: a list keeps and prints all answers alike, and nothing passes a refusal on.
 #[derive(Clone, Copy)]
 pub enum Answer {
     Refused(Cause),

@@ -46,7 +46,8 @@ pub struct Datagram {
     pub time: u64,
     pub addresses: FourTuple,
     /// The ECN mark, 1 to 3.
-    // (d) A number and no enum: a datagram may come with another one, and is then refused.
+    // A number and no enum: a wrong mark is refused by 1, so that it can be brought.
+    // A number and no enum: a datagram may come with another one, and is then refused.
     pub ecn: Option<u8>,
     /// How many of its bytes its first packet has.
     pub first_len: usize,
@@ -55,7 +56,7 @@ pub struct Datagram {
     pub src_cid: ConnectionId,
     pub version: u32,
     /// Whether an Initial bears a token.
-    // (d) A flag beside the kind: a datagram may come with it and be no Initial, and is then refused.
+    // A flag beside the kind: a datagram may come with it and be no Initial, and is then refused.
     pub token_mark: bool,
 }
 
@@ -70,12 +71,14 @@ pub struct Received<'a> {
 #[derive(Clone, Copy, Debug, Default, PartialEq, Eq)]
 pub struct Kept {
     pub datagram: Datagram,
+    // A length and no slice: the bytes lie in a block of lent memory.
     pub len: usize,
 }
 
 /// A close to be sent: the host encodes it.
 #[derive(Clone, Copy, Debug, Default, PartialEq, Eq)]
 pub struct Close {
+    // A number and no enum: the handshake may give any code of 64 bits.
     pub code: u64,
     pub version: u32,
     pub addresses: FourTuple,

@@ -3,7 +3,7 @@ ghost use Rattle.std.specs.Prelude.{◌≡◌, ℕ, ◌≤◌, length, slice_ind
 mod ops;
 
 /// A connection identifier: 0 to 20 bytes, and zeros past its length.
-// (d) A length beside an array: the kit's `ArrayVec` is not `Copy`, as the keys of a table are.
+// A length beside an array: the kit's `ArrayVec` is not `Copy`, as the keys of a table are.
 #[derive(Clone, Copy, Debug, PartialEq, Eq)]
 pub struct ConnectionId {
     len: u8,

@@ -20,7 +20,7 @@ pub fn draw_number<S: Supplies>(supplies: &mut S) -> u64
     ensures value { result ≡ number_of (row (S.all supplies.old).source 0 8) }
     ensures after { S.all supplies.new ≡ spent 0 8 (S.all supplies.old) }
 {
-    // (c) `array::from_fn` says nothing of what its calls leave, so that what was drawn would not be known.
+    // `array::from_fn` says nothing of what its calls leave, so that what was drawn would not be known.
     let mut bytes = [0; 8];
     draw_bytes(supplies, &mut bytes);
     u64::from_be_bytes(bytes)

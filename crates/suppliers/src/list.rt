@@ -13,7 +13,7 @@ use supply::supply::ConnectionIdGenerator;
 #[derive(Drop)]
 pub struct ListGenerator {
     ids: ArrayVec<ConnectionId, 32>,
-    // (d) An iterator that begins again would borrow the list, which lies in the same value.
+    // An iterator that begins again would borrow the list, which lies in the same value.
     at: usize,
     ghost within: { at < length ids.items },
     ghost fits: { list_fits ids.items ≡ true },

@@ -8,9 +8,9 @@ use supply::supply::ByteSource;
 #[derive(Drop)]
 pub struct Recorded {
     bytes: Vec<u8>,
-    // (d) `vec::IntoIter` needs no place, and a lemma for the bound below and another for its end.
+    // `vec::IntoIter` needs no place, and a lemma for the bound below and another for its end.
     at: usize,
-    // (c) The law on the source is owed at every list, and does not hold by the type of the bytes alone.
+    // The law on the source is owed at every list, and does not hold by the type of the bytes alone.
     ghost small: { (k : ℕ) → slice_index bytes.items k < 256 },
 }
 

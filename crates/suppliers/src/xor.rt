@@ -9,7 +9,7 @@ use supply::supply::HmacKey;
 #[derive(Drop)]
 pub struct XorKey {
     key: [u8; 32],
-    // (c) The law on signatures is owed at every list, and does not hold by the array's type alone.
+    // The law on signatures is owed at every list, and does not hold by the array's type alone.
     ghost wide: { length key ≡ 32 },
 }
 

@@ -18,7 +18,7 @@ pub struct Suppliers<G, B, K, D> {
 }
 
 /// The four suppliers as one, with one meaning.
-// (d) It repeats the methods of four traits: with four bounds each contract above would put their meanings together by itself.
+// It repeats the methods of four traits: with four bounds each contract above would put their meanings together by itself.
 pub trait Supplies {
     ghost all: { Self → Supplied };
 

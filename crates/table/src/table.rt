@@ -8,6 +8,7 @@ use crate::slot::{Key, Slot};
 #[derive(Drop)]
 pub struct Table<'a, K: Key, V: Copy> {
     slots: &'a mut [Slot<K, V>],
+    // A count of its own: the keys do not lie at the front.
     count: usize,
     ghost reached: { Reached K.PartialEq.eq K.Key.code slots.now },
     ghost counted: { count ≡ used slots.now },
