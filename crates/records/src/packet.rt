@@ -47,7 +47,6 @@ pub struct Datagram {
     pub addresses: FourTuple,
     /// The ECN mark, 1 to 3.
     // A number and no enum: a wrong mark is refused by 1, so that it can be brought.
-    // A number and no enum: a datagram may come with another one, and is then refused.
     pub ecn: Option<u8>,
     /// How many of its bytes its first packet has.
     pub first_len: usize,
