@@ -1,8 +1,8 @@
 -- What is told of a list of calls agrees with the state after it, through every change.
 use Rattle.std.proofs.Common.{◌≡◌, ℕ, suc, ◌<◌, Bool, true, false, cond, ◌&&◌, eqb, ◌⊎◌, List, [], ◌∷◌, map, Some, None, Option, sym, refl, ap, ◌∙◌, subst, ap₂, inl, inr, arith}
 use Rattle.std.specs.Map.{update}
-use Rattle.std.proofs.lemmas.Bool.{cond_both, both_ways, eq-eqb, ne_eqb, or_parts}
-use Rattle.std.proofs.lemmas.Bool.Decides.{Decides-eqb}
+use Rattle.std.proofs.lemmas.Bool.{cond_both, both_ways, eq-eqb, ne_eqb}
+use Rattle.std.proofs.lemmas.Bool.Decides.{Decides-eqb, nat_tests}
 use Rattle.model.specs.Records.{Id, Token, Sender, Datagram, Grant, Answer}
 use Rattle.model.specs.Endpoint.{Conn, Waiting, grants, add_kept, without}
 use Rattle.model.specs.Calls.{sealed_grants}
@@ -62,13 +62,7 @@ pub record Silent (e : Entry) (h : ℕ) : Type 0 where
 
 module _ (e : Entry) (told : List Entry) (h : ℕ) where
   pub at_silent : Silent e h → (o : Option Conn) → At told h o → At (e ∷ told) h o
-  at_silent s None a = (
-    λ q x m. elim m [
-      | inl g ↦ subst (λ (gs : List Grant). Among (record { sequence = q; id = x; token = g.0 }) gs) s.grants g.1
-      | inr r ↦ a.0 q x r.1
-    ],
-    λ d m. elim m [ inl z ↦ none_some d (sym s.begins ∙ z) | inr r ↦ a.1 d r.1 ],
-  )
+  at_silent s None a = grind (arith, nat_tests)
   at_silent s (Some c) a = record {
     first = a.first;
     began = inr (s.ends, a.began);
@@ -121,13 +115,7 @@ module _ (e : Entry) (told : List Entry) (h : ℕ) where
   }
 
   pub at_drained : grants_to e h ≡ [] → ends e h ≡ true → begun h e.answer ≡ None → At (e ∷ told) h None
-  at_drained none gone begins = (
-    λ q x m. elim m [
-      | inl g ↦ subst (λ (gs : List Grant). Among (record { sequence = q; id = x; token = g.0 }) gs) none g.1
-      | inr r ↦ both_ways (ends e h) (or_parts (ends e h) _ r.0).0 gone
-    ],
-    λ d m. elim m [ inl z ↦ none_some d (sym begins ∙ z) | inr r ↦ both_ways (ends e h) r.0 gone ],
-  )
+  at_drained none gone begins = grind (arith, nat_tests)
 
   pub at_accepted : (token : Id → Token) (ps : List (ℕ × Id)) (c : Conn) (first : Datagram) → grants_to e h ≡ sealed_grants token (grants ps) → begun h e.answer ≡ Some first →
       first.dst ≡ c.opened_with → first.addresses ≡ c.addresses → c.held ≡ ps → c.sender ≡ None → At told h None → Alive (e ∷ told) h c
@@ -160,9 +148,6 @@ abbrev pub spent_slots : (ℕ → Option ℕ) → Call → Answer → (ℕ → O
 spent_slots slots call answer k = cond (spent_by answer && brings k call) None (slots k)
 
 module _ (told : List Entry) (waiting : List Waiting) (slots : ℕ → Option ℕ) (n : ℕ) (e : Entry) where
-  pub placed_silent : ((k : ℕ) → spends e k ≡ false) → Placed told waiting slots → Placed (e ∷ told) waiting slots
-  placed_silent s p v m = let r = p v m in (r.0, r.1, inr (s r.0, r.2))
-
   pub placed_kept : ((k : ℕ) → spends e k ≡ false) → (t : ℕ) (d : Datagram) → Placed told waiting slots → Placed (e ∷ told) (map (add_kept t d) waiting) slots
   placed_kept s t d p v m =
       let r = among_map (add_kept t d) v waiting m in
@@ -175,11 +160,8 @@ module _ (told : List Entry) (waiting : List Waiting) (slots : ℕ → Option �
       subst (λ (u : Waiting). (k : ℕ) × (update eqb slots n (Some o.slot) k ≡ Some u.slot) × Waits (e ∷ told) k u.slot u.first) (sym z)
       (n, up_read eqb Decides-eqb slots n (Some o.slot) n (λ r. r ≡ Some o.slot) (λ _. refl) (λ no_way. absurd (no_way refl)), inl is)
   placed_opened s o is l p v (inr m) =
-      let r = p v m in (
-        r.0,
-        up_read eqb Decides-eqb slots n (Some o.slot) r.0 (λ q. q ≡ Some v.slot) (λ z. absurd (let b : r.0 < n = l r.0 v.slot r.1 in omega arith)) (λ _. r.1),
-        inr (s r.0, r.2),
-      )
+      let r = p v m in
+      grind (arith, nat_tests, r)
 
   pub labels_opened : (t : ℕ) → Labels slots n → Labels (update eqb slots n (Some t)) (suc n)
   labels_opened t l k m = up_read eqb Decides-eqb slots n (Some t) k (λ q. q ≡ Some m → k < suc n) (λ z _. omega arith) (λ _ z. let b : k < n = l k m z in omega arith)
@@ -199,21 +181,14 @@ module _ (told : List Entry) (waiting : List Waiting) (slots : ℕ → Option �
       (r.0, ap₂ {B = Bool} (λ x y. cond (x && y) None (slots r.0)) (same ∙ spent) off ∙ r.1, inr (quiet, r.2))
 
   pub labels_spent : (call : Call) (a : Answer) → Labels slots n → Labels (spent_slots slots call a) (suc n)
-  labels_spent call a l k m = cond_both (spent_by a && brings k call) None (slots k) (λ q. q ≡ Some m → k < suc n)
-      (λ _ z. absurd (none_some m z)) (λ _ z. let b : k < n = l k m z in omega arith)
+  labels_spent call a l k m = grind (arith, nat_tests)
 
   -- the label is the one that its slot was last opened under
   occupied : opened_slot e.answer ≡ None → (m : ℕ) → occupant (e ∷ told) m ≡ occupant told m
   occupied none m = ap (λ o. cond (is_slot m o) (Some e.label) (occupant told m)) none
 
   pub placing_silent : ((k : ℕ) → spends e k ≡ false) → opened_slot e.answer ≡ None → Placing told waiting slots n → Placing (e ∷ told) waiting slots (suc n)
-  placing_silent s none P = record {
-    waits = placed_silent s P.waits;
-    label = labels_more P.label;
-    live = P.live;
-    occupies = λ k m z. occupied none m ∙ P.occupies k m z;
-    in_hand = λ k m d z. elim z [ inl x ↦ absurd (none_some m (sym none ∙ x.slot)) | inr r ↦ P.in_hand k m d r.1 ];
-  }
+  placing_silent s none P = grind (arith, nat_tests)
 
   pub placing_kept : ((k : ℕ) → spends e k ≡ false) → opened_slot e.answer ≡ None → (t : ℕ) (d : Datagram) → Placing told waiting slots n → Placing (e ∷ told) (map (add_kept t d) waiting) slots (suc n)
   placing_kept s none t d P = record {

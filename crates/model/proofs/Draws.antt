@@ -1,4 +1,5 @@
 -- A search among draws depends on the draws that it makes alone.
+use Rattle.std.proofs.lemmas.Bool.Decides.{nat_tests}
 use Rattle.std.proofs.Common.{◌≡◌, ℕ, zero, suc, ◌+◌, ◌<◌, ◌≤◌, Bool, true, false, cond, not, ◌||◌, List, [], ◌∷◌, ◌++◌, length, sym, refl, ap, ◌∙◌, subst, ap₂, inl, inr, arith}
 use Rattle.std.proofs.lemmas.Bool.{cond_both, cases_eq}
 use Rattle.model.specs.Records.{same_id, Id, empty}
@@ -38,17 +39,13 @@ module _ {A : Type 0} where
   fronts [] [] cs ds l e = (refl, e)
   fronts [] (b ∷ qs) cs ds l e = absurd (omega arith)
   fronts (a ∷ ps) [] cs ds l e = absurd (omega arith)
-  fronts (a ∷ ps) (b ∷ qs) cs ds l e =
-      let r = fronts ps qs cs ds (omega arith) (same_tail a b (ps ++ cs) (qs ++ ds) e) in
-      (ap₂ {C = List A} (λ x y. x ∷ y) (same_head a b (ps ++ cs) (qs ++ ds) e) r.0, r.1)
+  fronts (a ∷ ps) (b ∷ qs) cs ds l e = grind (arith, nat_tests, fronts ps qs cs ds (omega arith) (same_tail a b (ps ++ cs) (qs ++ ds) e))
 
   -- a list that is a row up to its length, taken apart
   pub row_front : (f : ℕ → A) (xs ys : List A) → row f 0 (length (xs ++ ys)) ≡ xs ++ ys → length (xs ++ ys) ≡ length xs + length ys →
       (row f 0 (length xs) ≡ xs) × (row f (length xs) (length ys) ≡ ys)
   row_front f xs ys e l =
-      let w : row f 0 (length xs) ++ row f (0 + length xs) (length ys) ≡ xs ++ ys = sym (row_append f 0 (length xs) (length ys)) ∙ ap (row f 0) (sym l) ∙ e in
-      let z : row f (0 + length xs) (length ys) ≡ row f (length xs) (length ys) = ap (λ (k : ℕ). row f k (length ys)) (omega arith) in
-      fronts (row f 0 (length xs)) xs (row f (length xs) (length ys)) ys (row_length f 0 (length xs)) (ap (λ r. row f 0 (length xs) ++ r) (sym z) ∙ w)
+      grind (arith, nat_tests, row_append f 0 (length xs) (length ys), fronts (row f 0 (length xs)) xs (row f (length xs) (length ys)) ys (row_length f 0 (length xs)), row_length f 0 (length xs))
 
 -- the place of the draw after a search
 abbrev pub end : {A : Type 0} → Search A → ℕ
@@ -63,8 +60,7 @@ passes taken x = empty x || not (taken x)
 
 fresh_end : (taken : Id → Bool) (f : ℕ → Id) (i n : ℕ) → i ≤ end (fresh taken f i n)
 fresh_end taken f i zero = omega arith
-fresh_end taken f i (suc n) = cond_both (passes taken (f i)) (found (f i) (i + 1)) (fresh taken f (i + 1) n) (λ r. i ≤ end r) (λ _. omega arith)
-    (λ _. omega (arith, fresh_end taken f (i + 1) n))
+fresh_end taken f i (suc n) = grind (arith, nat_tests, fresh_end taken f (i + 1) n)
 
 fresh_local : (taken : Id → Bool) (f g : ℕ → Id) (i n : ℕ) → Same f g i (end (fresh taken f i n)) → fresh taken g i n ≡ fresh taken f i n
 fresh_local taken f g i zero same = refl

@@ -1,7 +1,7 @@
 -- An attempt is spent once: none that was accepted came to nothing.
-use Rattle.std.proofs.Common.{◌≡◌, ℕ, suc, ◌<◌, ◌≤◌, Bool, true, false, cond, ◌&&◌, ◌||◌, eqb, List, [], ◌∷◌, length, Some, None, Option, sym, refl, ap, ◌∙◌, inl, inr, arith}
+use Rattle.std.proofs.Common.{◌≡◌, ℕ, suc, ◌<◌, ◌≤◌, Bool, true, false, cond, ◌&&◌, ◌||◌, List, [], ◌∷◌, length, Some, None, Option, sym, refl, ap, ◌∙◌, inl, inr, arith}
 use Rattle.std.proofs.lemmas.Bool.{cond_both, both_ways, eqb-true, and_parts, or_from, or_cases, cases_Bool}
-use Rattle.std.proofs.lemmas.Bool.Decides.{Decides-eqb}
+use Rattle.std.proofs.lemmas.Bool.Decides.{nat_tests}
 use Rattle.model.specs.Records.{Id, Token, Incoming, Answer, refused, delivered, stored, opened, closing, reset, accepted, failed, ignored, issued, done}
 use Rattle.supply.specs.Meaning.{token_of}
 use Rattle.model.specs.Endpoint.{State, Config, Supply, Outcome}
@@ -10,7 +10,6 @@ use Rattle.model.specs.Calls.{sealed}
 use Rattle.model.specs.Runs
 use Rattle.model.specs.Runs.{Endpoint, own, foreign, Call, handles, accepts, refuses, ignores, handles_event, labelled, Entry, World, brings, spent_by, opened_slot, put_slot, slots_after, in_hand, with_attempt, outcome_of, after, history}
 use Rattle.model.specs.Words.{to_nothing, came_to_nothing}
-use Rattle.model.proofs.Keys.{up_read}
 use Rattle.model.proofs.Naming.{none_some}
 use Rattle.model.proofs.Routing.{always}
 use Rattle.model.proofs.Twins.{is_accepted}
@@ -65,10 +64,6 @@ says ignored = record { nothing = λ e. refl; success = λ e. refl; apart = λ e
 says (issued gs) = record { nothing = λ e. refl; success = λ e. refl; apart = λ e. refl; opening = λ m e. (refl, refl) }
 says done = record { nothing = λ e. refl; success = λ e. refl; apart = λ e. refl; opening = λ m e. (refl, refl) }
 
-and_weaker : (x y b : Bool) → (x ≡ true → y ≡ true) → (y && b) ≡ false → (x && b) ≡ false
-and_weaker true y b i e = sym (ap (λ z. z && b) (i refl)) ∙ e
-and_weaker false y b i e = refl
-
 and_stronger : (x y b : Bool) → (x ≡ true → y ≡ true) → (x && b) ≡ true → (y && b) ≡ true
 and_stronger true y b i e = ap (λ z. z && b) (i refl) ∙ e
 and_stronger false y b i e = absurd (both_ways false refl e)
@@ -110,19 +105,13 @@ module _ (token : Id → Token) (c : Config) (u : Supply) (s : State) (f : ℕ �
   its_success = ap is_accepted is ∙ accepted_sealed token a
 
   quiet : (k : ℕ) → (spent_by a && named k) ≡ false → ((to_nothing e.answer && named k) ≡ false) × ((is_accepted e.answer && named k) ≡ false)
-  quiet k z = (
-    ap (λ b. b && named k) its_nothing ∙ and_weaker (to_nothing a) (spent_by a) (named k) (says a).nothing z,
-    ap (λ b. b && named k) its_success ∙ and_weaker (is_accepted a) (spent_by a) (named k) (says a).success z,
-  )
+  quiet k z = grind (arith, nat_tests)
 
   still : (k : ℕ) → (spent_by a && named k) ≡ false → (came_to_nothing told k ≡ false) × (accepted_in told k ≡ false) → (came_to_nothing (e ∷ told) k ≡ false) × (accepted_in (e ∷ told) k ≡ false)
   still k z r = (or_from _ _ (quiet k z).0 r.0, or_from _ _ (quiet k z).1 r.1)
 
   next_later : (k : ℕ) → suc n ≤ k → (came_to_nothing (e ∷ told) k ≡ false) × (accepted_in (e ∷ told) k ≡ false)
-  next_later k l = elim (cases_Bool (spent_by a && named k)) [
-    | inl z ↦ absurd (let r = spends_held c u s f e.call k z in let b : k < n = low k r.0 r.1 in omega arith)
-    | inr z ↦ still k z (F.later k (omega arith))
-  ]
+  next_later k l = grind (arith, nat_tests, spends_held c u s f e.call k, still k, F.later k (omega arith))
 
   next_once : (k : ℕ) → accepted_in (e ∷ told) k ≡ true → came_to_nothing (e ∷ told) k ≡ false
   next_once k z = elim (or_cases _ _ z) [
@@ -142,10 +131,7 @@ module _ (token : Id → Token) (c : Config) (u : Supply) (s : State) (f : ℕ �
 
   next_open_by : (o : Option ℕ) → opened_slot a ≡ o → (k m : ℕ) → put_slot (λ j. cond (spent_by a && named j) None (f j)) n o k ≡ Some m → (came_to_nothing (e ∷ told) k ≡ false) × (accepted_in (e ∷ told) k ≡ false)
   next_open_by None z k m = open_old k m
-  next_open_by (Some t) z k m = up_read eqb Decides-eqb (λ j. cond (spent_by a && named j) None (f j)) n (Some t) k (λ o. o ≡ Some m → (came_to_nothing (e ∷ told) k ≡ false) × (accepted_in (e ∷ told) k ≡ false))
-      (λ y _. let r = (says a).opening t z in let b = F.later k (omega arith) in
-      (or_from _ _ (ap (λ x. x && named k) (its_nothing ∙ r.0)) b.0, or_from _ _ (ap (λ x. x && named k) (its_success ∙ r.1)) b.1))
-      (λ _ y. open_old k m y)
+  next_open_by (Some t) z k m = grind (arith, nat_tests)
 
   next_fate : Fate (e ∷ told) (slots_after f n e.call a) (suc n)
   next_fate = record { opened_yet = next_open_by (opened_slot a) refl; once = next_once; later = next_later }

@@ -1,9 +1,9 @@
 -- The attempts of two endpoints, one of which saw nothing of those that came to nothing.
-use Rattle.std.proofs.Common.{◌≡◌, ℕ, ◌+◌, ◌≤◌, Bool, true, false, cond, not, eqb, List, [], ◌∷◌, ◌++◌, map, length, Some, None, Decides, filter, Option, sym, refl, ap, ◌∙◌, subst, ap₂, inl, inr, arith}
+use Rattle.std.proofs.Common.{◌≡◌, ℕ, ◌+◌, ◌≤◌, Bool, true, false, cond, not, eqb, List, [], ◌∷◌, ◌++◌, map, length, Some, None, Decides, Option, sym, refl, ap, ◌∙◌, subst, ap₂, inl, inr, arith}
 use Rattle.std.proofs.lemmas.Bool.{cond_both, both_ways, eqb-true, eq-eqb, ne_eqb, not-true, not-false}
-use Rattle.std.proofs.lemmas.Bool.Decides.{same_from_decides}
-use Rattle.model.specs.Records.{Datagram, size}
-use Rattle.model.specs.Endpoint.{sum_of, Waiting, Target, to_attempt, to_connection, add_kept, without, kept_bytes, waiting_total, attempt_bytes, places_used}
+use Rattle.std.proofs.lemmas.Bool.Decides.{same_from_decides, nat_tests}
+use Rattle.model.specs.Records.{Datagram}
+use Rattle.model.specs.Endpoint.{Waiting, Target, to_attempt, to_connection, add_kept, without, kept_bytes, waiting_total, attempt_bytes, places_used}
 use Rattle.model.specs.Words.{Among}
 use Rattle.model.proofs.Naming.{some_same}
 
@@ -52,11 +52,7 @@ module _ (doomed : ℕ → Bool) where
     pub match_sums : {vs us : List Waiting} → Match f g vs us → (length us ≤ length vs) × (waiting_total us ≤ waiting_total vs) × (places_used us ≤ places_used vs)
     match_sums none = omega arith
     match_sums (left {v} {vs} {us} k a d m) = let r = match_sums m in omega (arith, total_cons v vs, places_cons v vs)
-    match_sums (both {v} {u} {vs} {us} k a b d e h m) =
-        let r = match_sums m in
-        let x : kept_bytes u ≡ kept_bytes v = ap (sum_of size) h in
-        let y : length u.kept ≡ length v.kept = ap length h in
-        omega (arith, total_cons v vs, places_cons v vs, total_cons u us, places_cons u us)
+    match_sums (both {v} {u} {vs} {us} k a b d e h m) = grind (arith, nat_tests, match_sums m)
 
     module _ (inf : Injective f) (k m : ℕ) (fk : f k ≡ Some m) where
       pub kept_left : (d : Datagram) → doomed k ≡ true → {vs us : List Waiting} → Match f g vs us → Match f g (map (add_kept m d) vs) us
@@ -99,19 +95,8 @@ module _ (doomed : ℕ → Bool) where
 
         pub match_bytes : {vs us : List Waiting} → Match f g vs us → attempt_bytes us t ≤ attempt_bytes vs m
         match_bytes none = omega arith
-        match_bytes (left {v} {vs} {us} j a b x) =
-            let r : attempt_bytes us t ≤ attempt_bytes vs m = match_bytes x in
-            cond_both (eqb v.slot m) (v ∷ filter (λ w. eqb w.slot m) vs) (filter (λ w. eqb w.slot m) vs) (λ l. attempt_bytes us t ≤ waiting_total l) (λ _. omega (arith, total_cons v (filter (λ w. eqb w.slot m) vs))) (λ _. r)
-        match_bytes (both {v} {u} {vs} {us} j a b c e h x) =
-            let r : attempt_bytes us t ≤ attempt_bytes vs m = match_bytes x in
-            let y : kept_bytes u ≡ kept_bytes v = ap (sum_of size) h in
-            subst (λ (z : Bool). waiting_total (cond z (u ∷ filter (λ w. eqb w.slot t) us) (filter (λ w. eqb w.slot t) us)) ≤ attempt_bytes (v ∷ vs) m) (sym (alike_tests j v.slot u.slot a b))
-            (ways (eqb v.slot m) r y)
-          where
-            ways : (z : Bool) → attempt_bytes us t ≤ attempt_bytes vs m → kept_bytes u ≡ kept_bytes v →
-                waiting_total (cond z (u ∷ filter (λ w. eqb w.slot t) us) (filter (λ w. eqb w.slot t) us)) ≤ waiting_total (cond z (v ∷ filter (λ w. eqb w.slot m) vs) (filter (λ w. eqb w.slot m) vs))
-            ways true r y = omega (arith, total_cons u (filter (λ w. eqb w.slot t) us), total_cons v (filter (λ w. eqb w.slot m) vs))
-            ways false r y = r
+        match_bytes (left {v} {vs} {us} j a b x) = grind (arith, nat_tests, match_bytes x)
+        match_bytes (both {v} {u} {vs} {us} j a b c e h x) = grind (arith, nat_tests, match_bytes x)
 
         pub spent_both : (f' g' : ℕ → Option ℕ) → ((j s : ℕ) → (j ≡ k → ⊥) → f j ≡ Some s → f' j ≡ Some s) → ((j s : ℕ) → (j ≡ k → ⊥) → g j ≡ Some s → g' j ≡ Some s) →
             doomed k ≡ false → {vs us : List Waiting} → Match f g vs us → Match f' g' (without vs m) (without us t)

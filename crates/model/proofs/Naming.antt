@@ -1,9 +1,9 @@
 -- Who holds which identifier: what the map of identifiers keeps to, through every change.
 use Rattle.std.proofs.Common.{◌≡◌, ℕ, zero, suc, ◌+◌, ◌<◌, ◌≤◌, Bool, false, not, ◌||◌, eqb, ◌⊎◌, List, [], ◌∷◌, ◌++◌, length, Some, None, filter, Option, sym, refl, ap, ◌∙◌, subst, inl, inr, arith}
 use Rattle.std.specs.Map.{update}
-use Rattle.std.proofs.lemmas.Bool.{cond_both, both_ways, eqb-false, ne_eqb, not-true, or_cases, or_parts}
+use Rattle.std.proofs.lemmas.Bool.{both_ways, eqb-false, ne_eqb, not-true, or_parts}
 use Rattle.records.specs.Same.{same_id_decides}
-use Rattle.std.proofs.lemmas.Bool.Decides.{Decides-eqb}
+use Rattle.std.proofs.lemmas.Bool.Decides.{Decides-eqb, nat_tests}
 use Rattle.model.specs.Records.{same_id, Id, empty}
 use Rattle.model.specs.Endpoint.{Conn, put, put_all, sequenced, second, Search, none_left, found, fresh, and_then, several}
 use Rattle.model.specs.Words.{Among}
@@ -47,10 +47,7 @@ FreshFound taken (found x j) = empty x ≡ false → taken x ≡ false
 
 fresh_found : (taken : Id → Bool) (f : ℕ → Id) (i n : ℕ) → FreshFound taken (fresh taken f i n)
 fresh_found taken f i zero = tt
-fresh_found taken f i (suc n) =
-    cond_both (empty (f i) || not (taken (f i))) (found (f i) (i + 1)) (fresh taken f (i + 1) n) (FreshFound taken)
-    (λ t u. elim (or_cases (empty (f i)) (not (taken (f i))) t) [ inl v ↦ absurd (both_ways (empty (f i)) u v) | inr v ↦ not-true (taken (f i)) v ])
-    (λ t. fresh_found taken f (i + 1) n)
+fresh_found taken f i (suc n) = grind (arith, nat_tests, fresh_found taken f (i + 1) n)
 
 abbrev pub SeveralFound : (Id → Bool) → ℕ → Search (List Id) → Type 0
 SeveralFound taken n (none_left j) = Unit {0}
@@ -101,10 +98,8 @@ sequenced_single n q x y (z ∷ zs) (inr m) (inr k) = sequenced_single (n + 1) q
 pub sequenced_once : (n p q : ℕ) (x : Id) (xs : List Id) → Apart xs → empty x ≡ false → Among (p, x) (sequenced n xs) → Among (q, x) (sequenced n xs) → p ≡ q
 sequenced_once n p q x [] a u m k = elim m [ ]
 sequenced_once n p q x (z ∷ zs) a u (inl e) (inl f) = ap (λ r. r.0) e ∙ sym (ap (λ r. r.0) f)
-sequenced_once n p q x (z ∷ zs) a u (inl e) (inr k) =
-    let s : x ≡ z = ap (λ r. r.1) e in absurd (a.0 (sym (ap empty s) ∙ u) (subst (λ (y : Id). Among y zs) s (sequenced_among (n + 1) q x zs k)))
-sequenced_once n p q x (z ∷ zs) a u (inr m) (inl f) =
-    let s : x ≡ z = ap (λ r. r.1) f in absurd (a.0 (sym (ap empty s) ∙ u) (subst (λ (y : Id). Among y zs) s (sequenced_among (n + 1) p x zs m)))
+sequenced_once n p q x (z ∷ zs) a u (inl e) (inr k) = grind (arith, nat_tests, sequenced_among (n + 1) q x zs k)
+sequenced_once n p q x (z ∷ zs) a u (inr m) (inl f) = grind (arith, nat_tests, sequenced_among (n + 1) p x zs m)
 sequenced_once n p q x (z ∷ zs) a u (inr m) (inr k) = sequenced_once (n + 1) p q x zs a.1 u m k
 
 -- ## Naming through each change
@@ -129,14 +124,7 @@ second_among x (p ∷ ps) (inl e) = (p.0, inl (ap {B = ℕ × Id} (λ z. (p.0, z
 second_among x (p ∷ ps) (inr m) = let r = second_among x ps m in (r.0, inr r.1)
 
 pub new_naming : Naming (λ h. None) (λ x. None)
-new_naming = record {
-  sound = λ x h e. absurd (none_some h e);
-  full = λ h q x u m. elim m [ ];
-  once = λ h p q x u m k. elim m [ ];
-  single = λ h q x y m k. elim m [ ];
-  below = λ h q x m. elim m [ ];
-  some = λ x h e. absurd (none_some h e);
-}
+new_naming = grind (arith, nat_tests)
 
 module _ {conns : ℕ → Option Conn} {ids : Id → Option ℕ} (N : Naming conns ids) (h : ℕ) where
   abbrev conn_read : (v : Option Conn) (k : ℕ) (P : Option Conn → Type 0) → (k ≡ h → P v) → ((k ≡ h → ⊥) → P (conns k)) → P (update eqb conns h v k)

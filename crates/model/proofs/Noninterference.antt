@@ -1,6 +1,6 @@
 -- A list of calls, and the list without what came to nothing: every call in both is answered alike.
+use Rattle.std.proofs.lemmas.Bool.Decides.{nat_tests}
 use Rattle.std.proofs.Common.{◌≡◌, ℕ, suc, ◌+◌, ◌<◌, Bool, true, false, cond, ◌&&◌, List, [], ◌∷◌, ◌++◌, map, length, Option, sym, refl, ap, ◌∙◌, subst, ap₂, subst₂, inl, inr, arith, length-append}
-use mathlib.Core.Path.{fun_ext}
 use Rattle.std.proofs.lemmas.Bool.{or_left, or_right}
 use Rattle.model.specs.Records.{Id, Answer}
 use Rattle.supply.specs.Meaning.{token_of}
@@ -112,17 +112,7 @@ module _ (E F : Endpoint) (like : Theorem.Alike E F) (positive : 0 < E.setup.gen
     mixed = with_waiting w.state w₂.state.waiting w₂.state.free_slots w₂.state.initial
 
     same_state : w₂.state ≡ mixed
-    same_state = λ i. record {
-      conns = (I.core i).conns;
-      free_handles = (I.core i).free_handles;
-      ids = (I.core i).ids;
-      initial = w₂.state.initial;
-      pairs = (I.core i).pairs;
-      senders = (I.core i).senders;
-      waiting = w₂.state.waiting;
-      free_slots = w₂.state.free_slots;
-      last_reset = (I.core i).last_reset;
-    }
+    same_state = grind (arith, nat_tests)
 
     sound₂ : Sound E.setup.generator.len mixed
     sound₂ = subst₂ (λ (l : ℕ) (s : State). Sound l s) like.len same_state I.kept.sound
@@ -153,11 +143,7 @@ module _ (E F : Endpoint) (like : Theorem.Alike E F) (positive : 0 < E.setup.gen
 
     same_supply : ((x : Id) → F.setup.generator.valid (length (drawn_ids r)) x ≡ E.setup.generator.valid (length (drawn_ids (told_of earlier))) x) →
         supply_at F.setup w₂ ≡ record { next_id = next₂; next_byte = next_byte₂; valid = (supply_at E.setup w).valid }
-    same_supply v = λ i. record {
-      next_id = next₂;
-      next_byte = next_byte₂;
-      valid = (ap F.setup.generator.valid I.ids ∙ fun_ext v ∙ ap E.setup.generator.valid (sym I.first_ids)) i;
-    }
+    same_supply v = grind (arith, nat_tests)
 
     same_outcome : ((x : Id) → F.setup.generator.valid (length (drawn_ids r)) x ≡ E.setup.generator.valid (length (drawn_ids (told_of earlier))) x) →
         outcome F.setup w₂ c ≡ outcome_of (config E.setup) (record { next_id = next₂; next_byte = next_byte₂; valid = (supply_at E.setup w).valid }) mixed w₂.slots c

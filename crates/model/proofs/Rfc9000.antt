@@ -1,20 +1,21 @@
 -- `handle` and `refuse` answer as RFC 9000 asks.
-use Rattle.std.proofs.Common.{◌≡◌, ℕ, zero, suc, ◌+◌, ◌-◌, ◌/◌, ◌%◌, ◌<◌, ◌≤◌, min, Bool, true, false, cond, not, ◌||◌, eqb, ltb, leb, ◌⊎◌, List, [], ◌∷◌, ◌++◌, length, get_or, take, Some, None, Option, sym, refl, ap, ◌∙◌, ap₂, inl, inr, mod-lt, arith, length-append, length-drop, take-append-drop, length-take, Ok, Err}
+use Rattle.std.proofs.lemmas.Bool.Decides.{nat_tests}
+use Rattle.std.proofs.Common.{◌≡◌, ℕ, zero, suc, ◌+◌, ◌-◌, ◌/◌, ◌%◌, ◌<◌, ◌≤◌, min, Bool, true, false, cond, leb, ◌⊎◌, List, [], ◌∷◌, ◌++◌, length, get_or, take, Some, None, Option, sym, refl, ap, ◌∙◌, ap₂, inl, inr, mod-lt, arith, length-append, length-drop, take-append-drop, length-take, Ok, Err}
 use Rattle.std.proofs.lemmas.List.{drop_at}
-use Rattle.std.proofs.lemmas.Bool.{both_ways, not-true, not-false, ltb-true, ltb-false, leb-true, leb-false, le-leb, lt-leb, eqb-true, eq-eqb, and_parts, and_cases, or_cases, or_parts, cond_both}
+use Rattle.std.proofs.lemmas.Bool.{not-false, ltb-false, leb-true, leb-false, le-leb, lt-leb, cond_both}
 use Rattle.records.specs.Ids.{id_bytes}
 use Rattle.supply.specs.Meaning.{token_of}
 use Rattle.supply.specs.Meaning.{Opens}
 use Rattle.supply.specs.declared.answers.Unopened.TheVariants.{Closed, ReservedBits, BadToken}
-use Rattle.model.specs.Records.{Id, Token, empty, Sender, Datagram, size, is_initial, is_short, is_early, last_16, sender_of, Incoming, refused}
+use Rattle.model.specs.Records.{Id, Token, empty, Datagram, size, is_initial, is_short, is_early, last_16, sender_of, Incoming}
 use Rattle.model.specs.Endpoint.{Waiting, Target, to_attempt, to_connection, State, Config, Supply, Outcome, row, first_cause, or_else, toward, held_route, initial_route, pair_route, sender_route, route}
-use Rattle.model.specs.Calls.{gives, number_of, marked, reset_by, stray_causes, stray_by, stray, close_now, open_by, bad_length, first_causes, first_by, first_packet, keep_by, handle_by, fits, brought, refuse_of, sealed}
+use Rattle.model.specs.Calls.{number_of, marked, reset_by, stray_causes, stray_by, stray, close_now, open_by, bad_length, first_causes, first_by, first_packet, keep_by, handle_by, brought, refuse_of, sealed}
 use Rattle.model.specs.Runs.{Setup, Endpoint, config, supply_at, Call, handles, labelled, World, outcome_of, after, answer_next}
 use Rattle.model.specs.Rfc9000
 use Rattle.model.specs.Rfc9000.{LongEnough, EndsWith, StatelessReset, Matches, has_identifier, has_first_identifier, has_addresses, has_token, Awaited, AsAsked, KeepsToRfc9000, RefusedAsAsked, RefusesByRfc9000}
 use Rattle.model.proofs.Naming.{none_some}
 use Rattle.model.proofs.Draws.{row_length}
-use Rattle.model.proofs.Steps.{first_passed, or_none_left, or_none_right}
+use Rattle.model.proofs.Steps.{first_passed, or_none_right}
 
 -- ## The last 16 bytes
 
@@ -44,10 +45,6 @@ toward_is : (o : Option ℕ) (h : ℕ) → toward o ≡ Some (to_connection h) �
 toward_is None h e = absurd (none_some (to_connection h) e)
 toward_is (Some k) h e = cc
 
-toward_not : (o : Option ℕ) (n : ℕ) → toward o ≡ Some (to_attempt n) → ⊥
-toward_not None n e = none_some (to_attempt n) e
-toward_not (Some k) n e = let z : ◌≡◌ {A = ℕ} 0 1 = cc in omega arith
-
 pub cond_none_left : {A : Type 0} (b : Bool) (o : Option A) (t : A) → cond b None o ≡ Some t → (b ≡ false) × (o ≡ Some t)
 cond_none_left true o t e = absurd (none_some t e)
 cond_none_left false o t e = (refl, e)
@@ -57,9 +54,6 @@ cond_none_right false o t e = absurd (none_some t e)
 cond_none_right true o t e = (refl, e)
 
 module _ (s : State) (d : Datagram) where
-  abbrev sender_with : List ℕ → Sender
-  sender_with t = record { remote = d.addresses.remote; token = record { bytes = t } }
-
   matches : (h : ℕ) → route s d ≡ Some (to_connection h) → Matches s d h
   matches h e = elim (or_else_cases (held_route s d) _ (to_connection h) e) [
     | inl p ↦
@@ -81,34 +75,14 @@ module _ (s : State) (d : Datagram) where
   ]
 
   awaited : (n : ℕ) → route s d ≡ Some (to_attempt n) → Awaited s d n
-  awaited n e = elim (or_else_cases (held_route s d) _ (to_attempt n) e) [
-    | inl p ↦ absurd (toward_not (s.ids d.dst) n (cond_none_left (empty d.dst) (toward (s.ids d.dst)) (to_attempt n) p).1)
-    | inr p ↦ elim (or_else_cases (initial_route s d) _ (to_attempt n) p) [
-      | inl q ↦
-          (let r = cond_none_right (is_early d.kind) (s.initial d.dst) (to_attempt n) q in
-          record { early = r.0; same = r.1 })
-      | inr q ↦ elim (or_else_cases (pair_route s d) (sender_route s d) (to_attempt n) q) [
-        | inl z ↦ absurd (toward_not (s.pairs d.addresses) n (cond_none_right (empty d.dst) (toward (s.pairs d.addresses)) (to_attempt n) z).1)
-        | inr z ↦ absurd (toward_not (s.senders (sender_of d)) n (cond_none_right (leb 16 (size d)) (toward (s.senders (sender_of d))) (to_attempt n) z).1)
-      ]
-    ]
-  ]
+  awaited n e = grind (arith, nat_tests)
 
   unmatched : route s d ≡ None → (h : ℕ) → Matches s d h → ⊥
-  unmatched e h (has_identifier u m) =
-      let on : held_route s d ≡ Some (to_connection h) = ap₂ {C = Option Target} (λ b o. cond b None (toward o)) u m in
-      none_some (to_connection h) (sym (or_none_left (held_route s d) _ e) ∙ on)
-  unmatched e h (has_first_identifier u m) =
-      let on : initial_route s d ≡ Some (to_connection h) = ap₂ {C = Option Target} (λ b o. cond b o None) u m in
-      none_some (to_connection h) (sym (or_none_left (initial_route s d) _ (or_none_right (held_route s d) _ e)) ∙ on)
-  unmatched e h (has_addresses u m) =
-      let on : pair_route s d ≡ Some (to_connection h) = ap₂ {C = Option Target} (λ b o. cond b (toward o) None) u m in
-      none_some (to_connection h) (sym (or_none_left (pair_route s d) _ (or_none_right (initial_route s d) _ (or_none_right (held_route s d) _ e))) ∙ on)
+  unmatched e h (has_identifier u m) = grind (arith, nat_tests)
+  unmatched e h (has_first_identifier u m) = grind (arith, nat_tests)
+  unmatched e h (has_addresses u m) = grind (arith, nat_tests)
   unmatched e h (has_token t u m) =
-      let long : leb 16 (size d) ≡ true = le-leb 16 (size d) (ends_with_size d.bytes t u) in
-      let it : s.senders (sender_of d) ≡ Some h = ap (λ x. s.senders (sender_with x)) (ends_with_last d.bytes t u) ∙ m in
-      let on : sender_route s d ≡ Some (to_connection h) = ap₂ {C = Option Target} (λ b o. cond b (toward o) None) long it in
-      none_some (to_connection h) (sym (or_none_right (pair_route s d) _ (or_none_right (initial_route s d) _ (or_none_right (held_route s d) _ e))) ∙ on)
+      grind (arith, nat_tests, le-leb 16 (size d) (ends_with_size d.bytes t u), ends_with_size d.bytes t u, ends_with_last d.bytes t u, or_none_right (pair_route s d), or_none_right (initial_route s d), or_none_right (held_route s d))
 
 -- ## The form of a reset
 
@@ -127,13 +101,7 @@ module _ (f : ℕ → ℕ) (fit : (i : ℕ) → f i < 256) (i : ℕ) where
   form : (size n : ℕ) (t : List ℕ) → length t ≡ 16 → 5 ≤ n → (size ≤ 43 → n + 17 ≡ size) → n + 16 < size → StatelessReset size (marked (row f i n) ++ t) t
   form size n t l five less fewer =
       let long : length (marked (row f i n) ++ t) ≡ n + 16 = length-append (marked (row f i n)) t ∙ ap₂ ◌+◌ (padding_length f i n) l in
-      record {
-        fixed_bits = fixed n t (omega arith);
-        token_last = record { front = marked (row f i n); whole = refl; sixteen = l };
-        least = omega arith;
-        one_less = λ k. let e : n + 17 ≡ size = less k in omega arith;
-        fewer = omega arith;
-      }
+      grind (arith, nat_tests, long)
 
   drawn : (j n : ℕ) → i ≡ j → marked (row f i n) ≡ marked (row f j (length (marked (row f i n))))
   drawn j n e = ap₂ {C = List ℕ} (λ a b. marked (row f a b)) e (sym (padding_length f i n))
@@ -180,24 +148,10 @@ module _ (c : Config) (u : Supply) (token : Id → Token) (s : State) (d : Datag
       first = record { initial = initial; unmatched = unmatched s d off; large = large }
 
       long_enough : bad_length c d ≡ false → LongEnough c.len d
-      long_enough e = elim (and_cases (ltb d.dst.len 8) (not (eqb d.dst.len c.len) || not d.token_mark) e) [
-        | inl z ↦ inl (ltb-false d.dst.len 8 z)
-        | inr z ↦
-            (let r = or_parts (not (eqb d.dst.len c.len)) (not d.token_mark) z in
-            inr (not-false d.token_mark r.1, eqb-true d.dst.len c.len (not-false (eqb d.dst.len c.len) r.0)))
-      ]
+      long_enough e = grind (arith, nat_tests)
 
       too_short : bad_length c d ≡ true → LongEnough c.len d → ⊥
-      too_short e l =
-          let p = and_parts (ltb d.dst.len 8) (not (eqb d.dst.len c.len) || not d.token_mark) e in
-          let below : d.dst.len < 8 = ltb-true d.dst.len 8 p.0 in
-          elim l [
-            | inl z ↦ omega arith
-            | inr z ↦ elim (or_cases (not (eqb d.dst.len c.len)) (not d.token_mark) p.1) [
-              | inl y ↦ both_ways (eqb d.dst.len c.len) (not-true (eqb d.dst.len c.len) y) (eq-eqb d.dst.len c.len z.1)
-              | inr y ↦ both_ways d.token_mark (not-true d.token_mark y) z.0
-            ]
-          ]
+      too_short e l = grind (arith, nat_tests)
 
       open_asked : LongEnough c.len d → (o : Opens) → c.door.opens d ≡ o → Asked (open_by u s d o)
       open_asked long (Err Closed) e = tt
@@ -225,8 +179,7 @@ module _ (c : Config) (u : Supply) (token : Id → Token) (s : State) (d : Datag
 
 pub keeps_to_rfc9000 : (c : Config) (u : Supply) (token : Id → Token) (s : State) (d : Datagram) (room : ℕ) →
     ((i : ℕ) → u.next_byte i < 256) → ((x : Id) → length (token x) ≡ 16) → KeepsToRfc9000 c u token s d room
-keeps_to_rfc9000 c u token s d room fit wide =
-    cond_both (fits c d room) (handle_by c u s d (route s d)) (gives (refused 1) s) (Asked c u token s d fit wide) (λ _. asked_by c u token s d fit wide (route s d) refl) (λ _. tt)
+keeps_to_rfc9000 c u token s d room fit wide = grind (arith, nat_tests, asked_by c u token s d fit wide (route s d) refl)
 
 pub token_length : (signer : List ℕ → List ℕ) → ((message : List ℕ) → length (signer message) ≡ 32) → (x : Id) → length (token_of signer x) ≡ 16
 token_length signer long x = length-take 16 (signer (id_bytes x)) ∙ ap (min 16) (long (id_bytes x))

@@ -1,13 +1,14 @@
 -- Routing is sound after every list of calls.
+use Rattle.std.proofs.lemmas.Bool.Decides.{nat_tests}
 use Rattle.std.proofs.Common.{◌≡◌, ℕ, suc, ◌-◌, ◌<◌, ◌≤◌, Bool, true, false, cond, eqb, leb, List, [], ◌∷◌, length, Some, None, Option, sym, refl, ap, ◌∙◌, subst, ap₂, arith, Ok, Err}
-use Rattle.std.proofs.lemmas.Bool.{cond_both, both_ways, leb-false}
+use Rattle.std.proofs.lemmas.Bool.{cond_both, leb-false}
 use Rattle.model.specs.Records.{Id, Token, FourTuple, Sender, Settings, Datagram, size, sender_of, is_initial, is_early, Incoming, Event, need, retire, reset_token, drained, Answer, refused, delivered, stored, opened, closing, reset, accepted, failed, ignored, issued, done}
 use Rattle.supply.specs.Meaning.{token_of}
 use Rattle.supply.specs.Meaning.{Opens as Opened}
 use Rattle.supply.specs.declared.answers.Unopened.TheVariants.{Closed, ReservedBits, BadToken}
 use Rattle.supply.specs.Meaning.{Greets}
 use Rattle.supply.specs.declared.answers.HandshakeError.TheVariants.{TransportError, Other}
-use Rattle.model.specs.Endpoint.{Conn, Waiting, Target, to_attempt, to_connection, State, Config, Supply, Outcome, or_else, toward, held_route, initial_route, pair_route, sender_route, route, first_cause, Search, none_left, found, several, is_held, with_spent, with_retired, conn_less}
+use Rattle.model.specs.Endpoint.{Conn, Waiting, Target, to_attempt, to_connection, State, Config, Supply, Outcome, or_else, toward, held_route, initial_route, pair_route, sender_route, route, first_cause, Search, none_left, found, several, is_held, with_retired, conn_less}
 use Rattle.model.specs.Calls
 use Rattle.model.specs.Calls.{gives, reset_by, stray_by, stray, open_by, bad_length, close_now, first_causes, first_by, first_packet, keep_by, handle_by, fits, handle, sealed, next_free, in_slot, brought, Room}
 use Rattle.model.specs.Runs.{Setup, Endpoint, config, supply_at, Call, handles, accepts, refuses, ignores, handles_event, with_attempt, Attempt, own, foreign, incoming, in_hand, Labelled, labelled, Entry, World, outcome_of, after, history, answer_next}
@@ -18,7 +19,7 @@ use Rattle.model.proofs.Naming.{HeldIn, none_some, some_same}
 use Rattle.model.proofs.Sound.{OpenedIn, PairIn, SenderIn, Sound, new_sound, a_slot, next_among, in_slot_among}
 use Rattle.model.proofs.Agree.{At, Agrees}
 use Rattle.model.proofs.Steps.{every_good, first_passed}
-use Rattle.model.proofs.Rfc9000.{cond_none_left, ends_with_last, ends_with_size, answers_as_asked}
+use Rattle.model.proofs.Rfc9000.{ends_with_last, ends_with_size, answers_as_asked}
 
 -- ## After every list
 
@@ -26,25 +27,8 @@ pub record Kept (E : Endpoint) (cs : List Labelled) (n : ℕ) : Type 0 where
   pub sound : Sound E.setup.generator.len (after E.setup cs).state
   pub agrees : Agrees (history E cs) (after E.setup cs).state.conns (after E.setup cs).state.waiting (after E.setup cs).slots n
 
--- the labels of a list rise, and stay below n
-abbrev pub Rising : List Labelled → ℕ → Type 0
-Rising [] n = Unit {0}
-Rising (c ∷ cs) n = (c.label < n) × Rising cs c.label
-
 pub kept_more : (E : Endpoint) (cs : List Labelled) (n m : ℕ) → n ≤ m → Kept E cs n → Kept E cs m
-kept_more E cs n m l k = record {
-  sound = k.sound;
-  agrees = record {
-    at = k.agrees.at;
-    placing = record {
-      waits = k.agrees.placing.waits;
-      label = λ j t z. let b : j < n = k.agrees.placing.label j t z in omega arith;
-      live = k.agrees.placing.live;
-      occupies = k.agrees.placing.occupies;
-      in_hand = k.agrees.placing.in_hand;
-    };
-  };
-}
+kept_more E cs n m l k = grind (arith, nat_tests)
 
 pub kept_next : (E : Endpoint) (c : Labelled) (cs : List Labelled) → Kept E cs c.label → Kept E (c ∷ cs) (suc c.label)
 unfolding after history
@@ -258,9 +242,7 @@ module _ (E : Endpoint) (calls : List Call) where
     new_connect some (found xs n) = new_greet some xs n _
 
     new_accept_by : (settings : Settings) (now : ℕ) (o : Option ℕ) → first_cause (Calls.accept_causes cf st v settings now) ≡ o → NewBy (Calls.accept_by cf sp st v settings o)
-    new_accept_by settings now (Some n) e =
-        cond_both (eqb n 23) (record { answer = failed n (Some (Calls.close_to sp 0 0x02 v.first)); state = with_spent st v None; ids_drawn = 1; bytes_drawn = 0 })
-        (gives (failed n None) (with_spent st v None)) NewBy (λ _. tt) (λ _. tt)
+    new_accept_by settings now (Some n) e = grind (arith, nat_tests)
     new_accept_by settings now None e = new_connect (leb-false (length st.free_handles) 0 (first_passed (Calls.accept_causes cf st v settings now) e).1.1.0) _
 
   new_accept_of : (now : ℕ) (given : Option Settings) (o : Option Waiting) → NewBy (Calls.accept_of cf sp st now given o)
@@ -333,12 +315,7 @@ module _ (E : Endpoint) (calls : List Call) where
 
   tied : (a : Attempt) (i : Incoming) → incoming E.setup.number (w E calls).slots a ≡ Some i → (v : Waiting) → brought (cf E calls) (st E calls) i ≡ Some v → Tied a v
   tied (own k) i z v = tied_own k ((w E calls).slots k) refl i z v
-  tied (foreign x) i z v =
-      let r = cond_none_left (eqb x.number E.setup.number) (Some x) i z in
-      let same : x ≡ i = some_same x i r.1 in
-      cond_both (eqb i.number E.setup.number) (in_slot (st E calls).waiting i.slot) None (λ o. o ≡ Some v → Tied (foreign x) v)
-      (λ t y. absurd (both_ways (eqb x.number E.setup.number) r.0 (ap (λ (j : Incoming). eqb j.number E.setup.number) same ∙ t)))
-      (λ _ y. absurd (none_some v y))
+  tied (foreign x) i z v = grind (arith, nat_tests)
 
   abbrev First : Attempt → Answer → Type 0
   First a (accepted h gs seed ds) = (k : ℕ) × (n : ℕ) × (first : Datagram) × (rest : List Datagram) × (a ≡ own k) × Waits (told E calls) k n first × (ds ≡ first ∷ rest)
@@ -380,9 +357,7 @@ module _ (E : Endpoint) (calls : List Call) where
     first_connect v t (found xs n) = first_greet v t _ xs n _
 
     first_accept_by : (v : Waiting) → Tied a v → (settings : Settings) (o : Option ℕ) → FirstBy (Calls.accept_by (cf E calls) (sp E calls) (st E calls) v settings o)
-    first_accept_by v t settings (Some n) =
-        cond_both (eqb n 23) (record { answer = failed n (Some (Calls.close_to (sp E calls) 0 0x02 v.first)); state = with_spent (st E calls) v None; ids_drawn = 1; bytes_drawn = 0 })
-        (gives (failed n None) (with_spent (st E calls) v None)) FirstBy (λ _. tt) (λ _. tt)
+    first_accept_by v t settings (Some n) = grind (arith, nat_tests)
     first_accept_by v t settings None = first_connect v t _
 
     first_accept_of : (now : ℕ) (given : Option Settings) (o : Option Waiting) → ((v : Waiting) → o ≡ Some v → Tied a v) → FirstBy (Calls.accept_of (cf E calls) (sp E calls) (st E calls) now given o)

@@ -1,12 +1,12 @@
 -- What the endpoint's state keeps to, through every change.
-use Rattle.std.proofs.Common.{◌≡◌, ℕ, zero, suc, ◌+◌, ◌<◌, ◌≤◌, Bool, true, false, cond, not, eqb, leb, ◌⊎◌, List, [], ◌∷◌, ◌++◌, map, length, drop, Some, None, filter, Option, sym, refl, ap, ◌∙◌, subst, inl, inr, arith}
+use Rattle.std.proofs.Common.{◌≡◌, ℕ, zero, suc, ◌+◌, ◌<◌, ◌≤◌, Bool, true, false, cond, not, eqb, ◌⊎◌, List, [], ◌∷◌, ◌++◌, map, length, drop, Some, None, filter, Option, sym, refl, ap, ◌∙◌, subst, inl, inr, arith}
 use lib.ListN.{length-map}
 use Rattle.std.specs.Map.{update}
-use Rattle.std.proofs.lemmas.Bool.{cond_both, leb-false, eqb-true, eqb-false, ne_eqb, not-true, not-false, or_parts}
+use Rattle.std.proofs.lemmas.Bool.{cond_both, eqb-true, eqb-false, ne_eqb, not-true, not-false}
 use Rattle.std.proofs.lemmas.List.{append-nil}
-use Rattle.std.proofs.lemmas.Bool.Decides.{Decides-eqb}
+use Rattle.std.proofs.lemmas.Bool.Decides.{Decides-eqb, nat_tests}
 use Rattle.model.specs.Records.{Id, empty, FourTuple, same_pair, Sender, same_sender, Datagram}
-use Rattle.model.specs.Endpoint.{Conn, Waiting, Target, to_attempt, to_connection, State, Config, put, put_all, sequenced, second, new_state, counting, is_exhausted, saturated, add_kept, with_kept, with_opened, without, with_spent, with_reset, with_conn, new_conn, with_accepted, forget_sender, with_drained, conn_holding, with_issued, conn_less, with_retired, with_sender}
+use Rattle.model.specs.Endpoint.{Conn, Waiting, Target, to_attempt, to_connection, State, Config, put, put_all, sequenced, second, new_state, counting, saturated, add_kept, with_kept, with_opened, without, with_spent, with_reset, with_conn, new_conn, with_accepted, forget_sender, with_drained, conn_holding, with_issued, conn_less, with_retired, with_sender}
 use Rattle.model.specs.Calls.{in_slot, next_free}
 use Rattle.model.specs.Words.{Among}
 use Rattle.records.proofs.Same.{same_pair_decides, same_sender_decides}
@@ -58,11 +58,7 @@ next_among (n ∷ free) l = inl refl
 
 -- one more attempt has a slot
 pub a_slot : (len : ℕ) (c : Config) (s : State) → Sound len s → c.settings.max_incoming ≤ 64 → saturated c s ≡ false → 0 < length s.free_slots
-a_slot len c s S most f =
-    let few : length s.waiting < c.settings.max_incoming =
-    leb-false c.settings.max_incoming (length s.waiting) (or_parts (is_exhausted c s) (leb c.settings.max_incoming (length s.waiting)) f).1 in
-    let all : length s.waiting + length s.free_slots ≡ 64 = S.slots_count in
-    omega arith
+a_slot len c s S most f = grind (arith, nat_tests)
 
 pub rest_among : (free : List ℕ) (n : ℕ) → Distinct free → Among n (drop 1 free) → Among n free × (n ≡ next_free free → ⊥)
 rest_among [] n d m = elim m [ ]
@@ -116,9 +112,7 @@ slotted_map n d (w ∷ ws) a =
 
 without_none : (ws : List Waiting) (n : ℕ) → ((v : Waiting) → Among v ws → v.slot ≡ n → ⊥) → length (without ws n) ≡ length ws
 without_none [] n none = refl
-without_none (w ∷ ws) n none =
-    cond_both (not (eqb w.slot n)) (w ∷ without ws n) (without ws n) (λ l. length l ≡ suc (length ws))
-    (λ t. ap suc (without_none ws n (λ v m. none v (inr m)))) (λ t. absurd (none w (inl refl) (eqb-true w.slot n (not-false _ t))))
+without_none (w ∷ ws) n none = grind (arith, nat_tests, without_none ws n, none, none w (inl refl))
 
 pub without_length : (ws : List Waiting) (w : Waiting) → Slotted ws → Among w ws → length (without ws w.slot) + 1 ≡ length ws
 without_length [] w a m = elim m [ ]
@@ -140,10 +134,7 @@ among_without ws n v m off = kept_among (λ w. not (eqb w.slot n)) v ws m (ap no
 
 pub in_slot_among : (ws : List Waiting) (n : ℕ) (w : Waiting) → in_slot ws n ≡ Some w → Among w ws × (w.slot ≡ n)
 in_slot_among [] n w = λ e. absurd (none_some w e)
-in_slot_among (x ∷ ws) n w =
-    cond_both (eqb x.slot n) (Some x) (in_slot ws n) (λ o. o ≡ Some w → Among w (x ∷ ws) × (w.slot ≡ n))
-    (λ t e. let s : x ≡ w = some_same x w e in (inl (sym s), sym (ap (λ r. r.slot) s) ∙ eqb-true x.slot n t))
-    (λ t e. let r = in_slot_among ws n w e in (inr r.0, r.1))
+in_slot_among (x ∷ ws) n w = grind (arith, nat_tests, in_slot_among ws n w)
 
 unlike_targets : (h n : ℕ) → Some (to_connection h) ≡ Some (to_attempt n) → ⊥
 unlike_targets h n e = let z : ◌≡◌ {A = ℕ} 0 1 = cc in omega arith
@@ -176,22 +167,7 @@ new_sound len = record {
 
 module _ {len : ℕ} {s : State} (S : Sound len s) where
   pub reset_sound : (now : ℕ) → Sound len (with_reset s now)
-  reset_sound now = record {
-    naming = S.naming;
-    entry_some = S.entry_some;
-    entry_conn = S.entry_conn;
-    entry_attempt = S.entry_attempt;
-    attempt_entry = S.attempt_entry;
-    conn_entry = S.conn_entry;
-    pair_conn = S.pair_conn;
-    sender_conn = S.sender_conn;
-    handles_free = S.handles_free;
-    handles_apart = S.handles_apart;
-    slotted = S.slotted;
-    slots_free = S.slots_free;
-    slots_apart = S.slots_apart;
-    slots_count = S.slots_count;
-  }
+  reset_sound now = grind (arith, nat_tests)
 
   -- ## Attempts
 
@@ -219,12 +195,10 @@ module _ {len : ℕ} {s : State} (S : Sound len s) where
     opening = record { slot = next_free s.free_slots; first = d; kept = [] }
 
     open_some : (x : Id) (t : Target) → put s.initial d.dst (Some (to_attempt (next_free s.free_slots))) x ≡ Some t → empty x ≡ false
-    open_some x t = put_read s.initial d.dst (Some (to_attempt (next_free s.free_slots))) x (λ o. o ≡ Some t → empty x ≡ false)
-        (λ u e _. ap empty e ∙ u) (λ no e. S.entry_some x t e)
+    open_some x t = grind (arith, nat_tests)
 
     open_conn : (x : Id) (h : ℕ) → put s.initial d.dst (Some (to_attempt (next_free s.free_slots))) x ≡ Some (to_connection h) → OpenedIn (s.conns h) x
-    open_conn x h = put_read s.initial d.dst (Some (to_attempt (next_free s.free_slots))) x (λ o. o ≡ Some (to_connection h) → OpenedIn (s.conns h) x)
-        (λ u e z. absurd (unlike_targets h (next_free s.free_slots) (sym z))) (λ no e. S.entry_conn x h e)
+    open_conn x h = grind (arith, nat_tests)
 
     open_attempt : (x : Id) (n : ℕ) → put s.initial d.dst (Some (to_attempt (next_free s.free_slots))) x ≡ Some (to_attempt n) →
         (w : Waiting) × Among w (opening ∷ s.waiting) × (w.slot ≡ n) × (w.first.dst ≡ x)

@@ -1,8 +1,8 @@
 -- Each of the five calls keeps the state sound, and what is told in agreement with it.
-use Rattle.std.proofs.Common.{◌≡◌, ℕ, suc, ◌+◌, ◌-◌, ◌<◌, Bool, true, false, cond, not, ◌||◌, eqb, leb, ◌⊎◌, List, [], ◌∷◌, ◌++◌, length, Some, None, Option, sym, refl, ap, ◌∙◌, subst, ap₂, subst₂, inl, inr, Ok, Err}
+use Rattle.std.proofs.Common.{arith, ◌≡◌, ℕ, suc, ◌+◌, ◌-◌, ◌<◌, Bool, true, false, cond, not, ◌||◌, eqb, leb, ◌⊎◌, List, [], ◌∷◌, ◌++◌, length, Some, None, Option, sym, refl, ap, ◌∙◌, subst, subst₂, inl, inr, Ok, Err}
 use Rattle.std.specs.Map.{update}
-use Rattle.std.proofs.lemmas.Bool.{cond_both, both_ways, eqb-true, eq-eqb, eqb-false, ne_eqb, leb-false, not-true, or_parts, or_from, cases_eq}
-use Rattle.std.proofs.lemmas.Bool.Decides.{Decides-eqb}
+use Rattle.std.proofs.lemmas.Bool.{cond_both, both_ways, eq-eqb, eqb-false, ne_eqb, leb-false, not-true, or_parts, or_from, cases_eq}
+use Rattle.std.proofs.lemmas.Bool.Decides.{Decides-eqb, nat_tests}
 use Rattle.model.specs.Records.{Id, Token, empty, Sender, Settings, Datagram, size, Kind, Initial, Handshake, ZeroRtt, Short, Retry, VersionNegotiate, is_initial, is_early, Grant, Incoming, Event, need, retire, reset_token, drained, Answer, refused, delivered, closing, failed, ignored, done}
 use Rattle.supply.specs.Meaning.{Opens as Opened}
 use Rattle.supply.specs.declared.answers.Unopened.TheVariants.{Closed, ReservedBits, BadToken}
@@ -15,7 +15,7 @@ use Rattle.model.specs.Runs
 use Rattle.model.specs.Runs.{Setup, config, supply_at, Attempt, own, foreign, Call, handles, accepts, refuses, ignores, handles_event, Entry, World, entry_of, brings, is_own, spent_by, opened_slot, slots_after, in_hand, incoming, with_attempt, outcome, outcome_of}
 use Rattle.model.specs.Words.{Among, event_for, granted, begun, drains, retires, sends, loses, spends}
 use Rattle.model.proofs.Keys.{up_read, among_append, among_left, among_right, among_kept, kept_among}
-use Rattle.model.proofs.Naming.{none_some, some_same, Apart, SeveralFound, several_found}
+use Rattle.model.proofs.Naming.{none_some, Apart, SeveralFound, several_found}
 use Rattle.model.proofs.Sound.{Sound, a_slot, next_among, in_slot_among, reset_sound, kept_sound, open_sound, spent_sound, accept_sound, drain_sound, issued_sound, retired_sound, sender_sound}
 use Rattle.model.proofs.Agree.{Alive, At, Agrees, Silent, at_silent, at_event, at_named, at_drained, at_accepted, placing_silent, placing_kept, placing_opened, placing_spent, spent_slots}
 
@@ -30,14 +30,11 @@ first_passed (t ∷ ts) = cond_both t.0 (Some t.1) (first_cause ts) (λ o. o ≡
 
 pub held_at_some : (ps : List (ℕ × Id)) (q : ℕ) (x : Id) → held_at ps q ≡ Some x → Among (q, x) ps
 held_at_some [] q x = λ e. absurd (none_some x e)
-held_at_some (p ∷ ps) q x = cond_both (eqb p.0 q) (Some p.1) (held_at ps q) (λ o. o ≡ Some x → Among (q, x) (p ∷ ps))
-    (λ t e. inl (ap₂ {C = ℕ × Id} (λ a b. (a, b)) (sym (eqb-true p.0 q t)) (sym (some_same p.1 x e)))) (λ t e. inr (held_at_some ps q x e))
+held_at_some (p ∷ ps) q x = grind (arith, nat_tests, held_at_some ps q x)
 
 pub held_at_none : (ps : List (ℕ × Id)) (q p : ℕ) (x : Id) → held_at ps q ≡ None → Among (p, x) ps → p ≡ q → ⊥
 held_at_none [] q p x = λ e m. elim m [ ]
-held_at_none (r ∷ ps) q p x = cond_both (eqb r.0 q) (Some r.1) (held_at ps q) (λ o. o ≡ None → Among (p, x) (r ∷ ps) → p ≡ q → ⊥)
-    (λ t e. absurd (none_some r.1 (sym e)))
-    (λ t e m z. elim m [ inl i ↦ eqb-false r.0 q t (sym (ap (λ y. y.0) i) ∙ z) | inr k ↦ held_at_none ps q p x e k z ])
+held_at_none (r ∷ ps) q p x = grind (arith, nat_tests, held_at_none ps q p x)
 
 pub free_none : (o : Option ℕ) → not (is_none o) ≡ false → o ≡ None
 free_none None e = refl
@@ -62,13 +59,7 @@ early VersionNegotiate i = i
 -- an entry is silent on a connection whose event, if it answers one, says nothing
 pub silent_by : (e : Entry) (h : ℕ) (event : Option Event) → event_for h e.call ≡ event → granted h event e.answer ≡ [] → drains event e.answer ≡ false →
     ((q : ℕ) → retires q event e.answer ≡ false) → sends event e.answer ≡ None → begun h e.answer ≡ None → Silent e h
-silent_by e h event is g d r s b = record {
-  grants = ap (λ v. granted h v e.answer) is ∙ g;
-  ends = ap (λ v. drains v e.answer) is ∙ d;
-  loses = λ q. ap (λ v. drains v e.answer || retires q v e.answer) is ∙ or_from _ _ d (r q);
-  names = ap (λ v. sends v e.answer) is ∙ s;
-  begins = b;
-}
+silent_by e h event is g d r s b = grind (arith, nat_tests)
 
 module _ (U : Setup) (token : Id → Token) (w : World) (told : List Entry) (n : ℕ) (S : Sound U.generator.len w.state)
     (A : Agrees told w.state.conns w.state.waiting w.slots n) where
@@ -321,9 +312,7 @@ module _ (U : Setup) (token : Id → Token) (w : World) (told : List Entry) (n :
     on_event = ap (λ b. cond b (Some ev) None) (eq-eqb h h refl)
 
     others : (o : Outcome) → ((k : ℕ) → granted k None (sealed token o.answer) ≡ []) → ((k : ℕ) → begun k (sealed token o.answer) ≡ None) → (k : ℕ) → (k ≡ h → ⊥) → At (told_of event_call o ∷ told) k (s.conns k)
-    others o g b k off =
-        let e : Entry = told_of event_call o in
-        at_silent e told k (silent_by e k None (off_event k off) (g k) refl (λ q. refl) refl (b k)) (s.conns k) (A.at k)
+    others o g b k off = grind (arith, nat_tests, at_silent, silent_by, off_event k off, A.at k)
 
     event_agrees : (e : Entry) → ((k : ℕ) → spends e k ≡ false) → opened_slot e.answer ≡ None → (conns : ℕ → Option Conn) → ((k : ℕ) → At (e ∷ told) k (conns k)) → Agrees (e ∷ told) conns s.waiting w.slots (suc n)
     event_agrees e keeps none conns at = record {

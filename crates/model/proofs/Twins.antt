@@ -1,11 +1,11 @@
 -- One call to two endpoints, one of which saw nothing of the attempts that came to nothing.
-use Rattle.std.proofs.Common.{◌≡◌, ℕ, ◌+◌, ◌-◌, ◌*◌, ◌%◌, ◌<◌, ◌≤◌, Bool, true, false, cond, not, ◌&&◌, ◌||◌, eqb, ltb, leb, ◌⊎◌, List, [], ◌∷◌, ◌++◌, length, drop, Some, None, Option, sym, refl, ap, ◌∙◌, subst, ap₂, subst₂, inl, inr, arith, Ok, Err}
+use Rattle.std.proofs.Common.{◌≡◌, ℕ, ◌+◌, ◌-◌, ◌*◌, ◌%◌, ◌<◌, ◌≤◌, Bool, true, false, cond, not, ◌&&◌, ◌||◌, eqb, ltb, leb, ◌⊎◌, List, [], ◌∷◌, length, drop, Some, None, Option, sym, refl, ap, ◌∙◌, subst, ap₂, subst₂, inl, inr, arith, Ok, Err}
 use mathlib.Core.Path.{fun_ext}
 use Rattle.std.specs.Map.{update}
-use Rattle.std.proofs.lemmas.Bool.{cond_both, both_ways, eqb-true, eq-eqb, eqb-false, ne_eqb, leb-false, lt-leb, le-ltb, ltb-false, or_parts, or_from, or_right, cases_Bool}
+use Rattle.std.proofs.lemmas.Bool.{cond_both, both_ways, eqb-true, eq-eqb, eqb-false, ne_eqb, leb-false, lt-leb, or_parts, or_right, cases_Bool}
 use Rattle.records.specs.Same.{same_id_decides}
 use Rattle.records.proofs.Same.{same_pair_decides}
-use Rattle.std.proofs.lemmas.Bool.Decides.{Decides-eqb}
+use Rattle.std.proofs.lemmas.Bool.Decides.{Decides-eqb, nat_tests}
 use Rattle.model.specs.Records.{same_id, Id, Token, empty, FourTuple, same_pair, Sender, Settings, Datagram, size, sender_of, is_initial, is_short, is_early, Opening, Incoming, Event, need, retire, reset_token, drained, Answer, refused, delivered, stored, opened, closing, reset, accepted, failed, ignored, issued, done}
 use Rattle.supply.specs.Meaning.{Opens as Opened}
 use Rattle.supply.specs.declared.answers.Unopened.TheVariants.{Closed, ReservedBits, BadToken}
@@ -15,7 +15,7 @@ use Rattle.model.specs.Endpoint
 use Rattle.model.specs.Endpoint.{Conn, Waiting, Target, to_attempt, to_connection, State, Config, Supply, Outcome, first_cause, put, put_all, row, sequenced, second, is_held, Search, none_left, found, several, or_else, toward, held_route, initial_route, pair_route, sender_route, route, is_exhausted, saturated, no_place, too_large, attempt_bytes, waiting_total, places_used, without, with_waiting, with_spent, with_opened, with_accepted, with_drained, new_conn, with_retired, conn_less}
 use Rattle.model.specs.Calls
 use Rattle.model.specs.Calls.{gives, next_free, in_slot, brought, held_at, sealed, number_of, Room}
-use Rattle.model.specs.Runs.{own, foreign, Call, handles, accepts, refuses, ignores, handles_event, Entry, brings, spent_by, opened_slot, put_slot, slots_after, in_hand, incoming, with_attempt, outcome_of}
+use Rattle.model.specs.Runs.{own, foreign, Call, handles, accepts, refuses, ignores, handles_event, Entry, brings, spent_by, opened_slot, put_slot, slots_after, in_hand, with_attempt, outcome_of}
 use Rattle.model.specs.Words.{Among, is_dropped, about, holds_of, slotless, to_nothing}
 use Rattle.model.proofs.Keys.{up_read, put_read, put_all_read}
 use Rattle.model.proofs.Naming.{none_some, some_same, SeveralFound, several_found}
@@ -23,7 +23,7 @@ use Rattle.model.proofs.Sound.{Sound, Slotted, slotted_same, in_slot_among, next
 use Rattle.model.proofs.Agree.{Placing}
 use Rattle.model.proofs.Steps.{first_passed, free_none, or_none_left, or_none_right, early}
 use Rattle.model.proofs.Match.{Injective, Match, left, both, Entries, Alike, match_sums, kept_left, spent_left, find, kept_both, match_bytes, spent_both, match_more}
-use Rattle.model.proofs.Draws.{row_at, row_append, row_length, end, several_local, same_head, fronts}
+use Rattle.model.proofs.Draws.{row_at, end, several_local}
 
 -- ## What two states share
 
@@ -72,12 +72,9 @@ module _ (doomed : ℕ → Bool) {f g f' g' : ℕ → Option ℕ} where
   entries_spent k m fk kf kg (Some (to_connection h)) None off e = elim e [ ]
   entries_spent k m fk kf kg (Some (to_connection h)) (Some (to_connection i)) off e = e
   entries_spent k m fk kf kg (Some (to_connection h)) (Some (to_attempt t)) off e = elim e [ ]
-  entries_spent k m fk kf kg (Some (to_attempt r)) None off e =
-      (e.0, kf e.0 r (λ z. off (ap {B = Option Target} (λ y. Some (to_attempt y)) (some_same r m (sym e.1 ∙ ap f z ∙ fk)))) e.1, e.2)
+  entries_spent k m fk kf kg (Some (to_attempt r)) None off e = grind (arith, nat_tests)
   entries_spent k m fk kf kg (Some (to_attempt r)) (Some (to_connection h)) off e = elim e [ ]
-  entries_spent k m fk kf kg (Some (to_attempt r)) (Some (to_attempt t)) off e =
-      let apart : e.0 ≡ k → ⊥ = λ z. off (ap {B = Option Target} (λ y. Some (to_attempt y)) (some_same r m (sym e.1 ∙ ap f z ∙ fk))) in
-      (e.0, kf e.0 r apart e.1, kg e.0 t apart e.2, e.3)
+  entries_spent k m fk kf kg (Some (to_attempt r)) (Some (to_attempt t)) off e = grind (arith, nat_tests)
 
 no_other : (doomed : ℕ → Bool) (f g : ℕ → Option ℕ) (o p : Option Target) → o ≡ None → Entries doomed f g o p → p ≡ None
 no_other doomed f g None None z e = refl
@@ -131,9 +128,7 @@ firsts : (V : Option ℕ → Option ℕ → Type 0) → V (Some 8) (Some 8) → 
 firsts V v8 v20 v22 v9 true b b' c c' d p q v = v8
 firsts V v8 v20 v22 v9 false true b' c c' d p q v = v20 (first_cause ((b', 20) ∷ (c', 22) ∷ (d, 9) ∷ []))
 firsts V v8 v20 v22 v9 false false b' true c' d p q v = v22 (first_cause ((b', 20) ∷ (c', 22) ∷ (d, 9) ∷ []))
-firsts V v8 v20 v22 v9 false false b' false c' d p q v =
-    subst₂ (λ (x y : Bool). V (first_cause ((d, 9) ∷ [])) (first_cause ((x, 20) ∷ (y, 22) ∷ (d, 9) ∷ []))) (sym (p refl)) (sym (q refl))
-    (cond_two d (Some 9) None (Some 9) None V (λ _. v9) (λ _. v refl))
+firsts V v8 v20 v22 v9 false false b' false c' d p q v = grind (arith, nat_tests)
 
 seconds : (V : Option ℕ → Option ℕ → Type 0) → ((o : Option ℕ) → V (Some 21) o) → ((o : Option ℕ) → V (Some 22) o) → (b b' c c' : Bool) → (b ≡ false → b' ≡ false) → (c ≡ false → c' ≡ false) → V None None →
     V (first_cause ((b, 21) ∷ (c, 22) ∷ [])) (first_cause ((b', 21) ∷ (c', 22) ∷ []))
@@ -154,9 +149,6 @@ hosts : (V : Option ℕ → Type 0) → V (Some 1) → V (Some 2) → V None →
 hosts V v1 v2 v true b = v1
 hosts V v1 v2 v false true = v2
 hosts V v1 v2 v false false = v
-
-no_less : (a b c : ℕ) → b ≤ a → ltb c a ≡ false → ltb c b ≡ false
-no_less a b c l e = le-ltb c b (let h : a ≤ c = ltb-false c a e in omega arith)
 
 no_reach : (a b c : ℕ) → b ≤ a → leb c a ≡ false → leb c b ≡ false
 no_reach a b c l e = lt-leb c b (let h : a < c = leb-false c a e in omega arith)
@@ -226,17 +218,7 @@ module _ (doomed : ℕ → Bool) (token : Id → Token) (c : Config) (few : c.se
 
     reset_verdict : (i k : ℕ) (l : ℕ) → (row byte₂ 0 (i + k) ≡ row u.next_byte 0 (i + k) → (l ≡ k) × (row byte₂ i k ≡ row u.next_byte i k)) →
         Verdict call (Calls.send_reset u s d i k) (Calls.send_reset u₂ s₂ d i l)
-    reset_verdict i k l same = inr (
-      refl,
-      λ w. let r = same w.bytes in record {
-        answer = ap₂ {C = Answer} (λ j bs. reset d.addresses d.dst (Calls.marked bs) (token d.dst)) r.0 (ap (row byte₂ i) r.0 ∙ r.1);
-        ids = refl;
-        bytes = ap (λ j. i + j) r.0;
-        core = refl;
-        meant = refl;
-        rest = R;
-      },
-    )
+    reset_verdict i k l same = grind (arith, nat_tests)
 
     stray_verdict : Verdict call (Calls.stray c u s d) (Calls.stray c u₂ s₂ d)
     stray_verdict = strays (λ o. Verdict call (Calls.stray_by u s d o) (Calls.stray_by u₂ s₂ d o))
@@ -250,10 +232,7 @@ module _ (doomed : ℕ → Bool) (token : Id → Token) (c : Config) (few : c.se
         picked b = 25 + number_of (row b 0 8) % (size d - 42)
 
         cut : (k : ℕ) → row byte₂ 0 (8 + k) ≡ row u.next_byte 0 (8 + k) → (row byte₂ 0 8 ≡ row u.next_byte 0 8) × (row byte₂ 8 k ≡ row u.next_byte 8 k)
-        cut k e = pieces (sym (row_append byte₂ 0 8 k) ∙ e ∙ row_append u.next_byte 0 8 k)
-          where
-            pieces : row byte₂ 0 8 ++ row byte₂ (0 + 8) k ≡ row u.next_byte 0 8 ++ row u.next_byte (0 + 8) k → (row byte₂ 0 8 ≡ row u.next_byte 0 8) × (row byte₂ 8 k ≡ row u.next_byte 8 k)
-            pieces z = fronts (row byte₂ 0 8) (row u.next_byte 0 8) (row byte₂ 8 k) (row u.next_byte 8 k) (row_length byte₂ 0 8 ∙ sym (row_length u.next_byte 0 8)) z
+        cut k e = grind (arith, nat_tests)
 
         sent : (b : Bool) → Verdict call (Calls.reset_by u s d b) (Calls.reset_by u₂ s₂ d b)
         sent true = reset_verdict 0 (size d - 17) (size d - 17) (short (size d - 17))
@@ -263,17 +242,7 @@ module _ (doomed : ℕ → Bool) (token : Id → Token) (c : Config) (few : c.se
     -- ### First packets
 
     close_verdict : (code : ℕ) → Verdict call (Calls.close_now u s code d) (Calls.close_now u₂ s₂ code d)
-    close_verdict code = inr (
-      refl,
-      λ w. record {
-        answer = ap {B = Answer} (λ x. closing (record { code = code; version = d.version; addresses = d.addresses; dst_cid = d.src; src_cid = x })) (same_head (next₂ 0) (u.next_id 0) [] [] w.ids);
-        ids = refl;
-        bytes = refl;
-        core = refl;
-        meant = refl;
-        rest = R;
-      },
-    )
+    close_verdict code = grind (arith, nat_tests)
 
     abbrev slot₁ : ℕ
     slot₁ = next_free s.free_slots
@@ -335,9 +304,7 @@ module _ (doomed : ℕ → Bool) (token : Id → Token) (c : Config) (few : c.se
     sums = match_sums doomed R.match
 
     less_saturated : saturated c s ≡ false → saturated c s₂ ≡ false
-    less_saturated e =
-        let r = or_parts (is_exhausted c s) (leb c.settings.max_incoming (length s.waiting)) e in
-        or_from (is_exhausted c s) (leb c.settings.max_incoming (length us)) r.0 (no_reach (length s.waiting) (length us) c.settings.max_incoming sums.0 r.1)
+    less_saturated e = grind (arith, nat_tests, no_reach (length s.waiting) (length us) c.settings.max_incoming sums.0)
 
     more_places : no_place c s ≡ false → no_place c s₂ ≡ false
     more_places e = no_reach (places_used s.waiting) (places_used us) c.places sums.2 e
@@ -364,9 +331,7 @@ module _ (doomed : ℕ → Bool) (token : Id → Token) (c : Config) (few : c.se
         let r = or_parts (ltb c.settings.incoming_buffer_size (attempt_bytes s.waiting m + size d)) (ltb c.settings.incoming_buffer_size_total (waiting_total s.waiting + size d)) e in
         let own_bytes : attempt_bytes us t ≤ attempt_bytes s.waiting m = match_bytes doomed inf k m fk ing t gk R.match in
         let total : waiting_total us ≤ waiting_total s.waiting = sums.1 in
-        or_from (ltb c.settings.incoming_buffer_size (attempt_bytes us t + size d)) (ltb c.settings.incoming_buffer_size_total (waiting_total us + size d))
-        (no_less (attempt_bytes s.waiting m + size d) (attempt_bytes us t + size d) c.settings.incoming_buffer_size (omega arith) r.0)
-        (no_less (waiting_total s.waiting + size d) (waiting_total us + size d) c.settings.incoming_buffer_size_total (omega arith) r.1)
+        grind (arith, nat_tests, r, own_bytes, total)
 
     keep_verdict : (k m t : ℕ) → f k ≡ Some m → g k ≡ Some t → doomed k ≡ false → Verdict call (Calls.keep c s d m) (Calls.keep c s₂ d t)
     keep_verdict k m t fk gk e = seconds (λ o p. Verdict call (Calls.keep_by s d m o) (Calls.keep_by s₂ d t p)) (λ p. dropped 21 (Calls.keep_by s₂ d t p) refl) (λ p. dropped 22 (Calls.keep_by s₂ d t p) refl)
@@ -508,9 +473,6 @@ module _ (doomed : ℕ → Bool) (token : Id → Token) (c : Config) (few : c.se
 
       was_free : s.conns h ≡ None
       was_free = S.handles_free h (next_among s.free_handles some)
-
-      given_up : State
-      given_up = with_drained (with_accepted c s v h xs) h (new_conn v xs)
 
       same_conns : (q : ℕ) → update eqb (update eqb s.conns h (Some (new_conn v xs))) h None q ≡ s.conns q
       same_conns q = up_read eqb Decides-eqb (update eqb s.conns h (Some (new_conn v xs))) h None q (λ o. o ≡ s.conns q) (λ e. sym (ap s.conns e ∙ was_free))
@@ -655,8 +617,7 @@ module _ (doomed : ℕ → Bool) (token : Id → Token) (c : Config) (few : c.se
         connect_good (found xs i) r₂ same N = greet_good xs i r₂ same (c.door.greets v.first h₁ xs) refl N
 
         accept_good_by : (settings : Settings) (o : Option ℕ) → Nothing (Calls.accept_by c u s v settings o) → Verdict accept_call (Calls.accept_by c u s v settings o) (Calls.accept_by c u₂ s₂ (twin v t) settings o)
-        accept_good_by settings (Some j) N = absurd (N (cond_both (eqb j 23) (record { answer = failed j (Some (Calls.close_to u 0 0x02 v.first)); state = with_spent s v None; ids_drawn = 1; bytes_drawn = 0 })
-            (gives (failed j None) (with_spent s v None)) (λ o. to_nothing o.answer ≡ true) (λ _. refl) (λ _. refl)))
+        accept_good_by settings (Some j) N = grind (arith, nat_tests)
         accept_good_by settings None N = connect_good (several (is_held s) u.next_id 0 (Calls.wanted c settings)) (several (is_held s) next₂ 0 (Calls.wanted c settings))
             (several_local (is_held s) u.next_id next₂ 0 (Calls.wanted c settings)) N
 
@@ -719,22 +680,6 @@ module _ (doomed : ℕ → Bool) (token : Id → Token) (c : Config) (few : c.se
 
   -- ### Attempts of another number
 
-  not_its_own : (x : State) (i : Incoming) → eqb i.number c.number ≡ false → brought c x i ≡ None
-  not_its_own x i e = ap (λ b. cond b (in_slot x.waiting i.slot) None) e
-
-  foreign_verdict : (call : Call) (i : Incoming) (F F₂ : Incoming → Outcome) → left_out_of call (refused 5) ≡ false → (eqb i.number c.number ≡ false → Verdict call (F i) (F₂ i)) →
-      Verdict call (with_attempt s F (incoming c.number f (foreign i))) (with_attempt s₂ F₂ (incoming c.number g (foreign i)))
-  foreign_verdict call i F F₂ l v = cond_both (eqb i.number c.number) None (Some i) (λ o. Verdict call (with_attempt s F o) (with_attempt s₂ F₂ o)) (λ _. refusal call 5 l) v
-
-  accept_foreign : (i : Incoming) (now : ℕ) (given : Option Settings) (room : Room) → eqb i.number c.number ≡ false →
-      Verdict (accepts (foreign i) now given room) (Calls.accept c u s i now given room) (Calls.accept c u₂ s₂ i now given room)
-  accept_foreign i now given room e = hosts
-      (λ o. Verdict (accepts (foreign i) now given room) (Calls.accept_from c u s i now given o) (Calls.accept_from c u₂ s₂ i now given o))
-      (refusal (accepts (foreign i) now given room) 1 refl) (refusal (accepts (foreign i) now given room) 2 refl)
-      (subst₂ (λ (a b : Option Waiting). Verdict (accepts (foreign i) now given room) (Calls.accept_of c u s now given a) (Calls.accept_of c u₂ s₂ now given b)) (sym (not_its_own s i e)) (sym (not_its_own s₂ i e))
-      (refusal (accepts (foreign i) now given room) 5 refl))
-      (ltb room.records c.places || ltb room.bytes (c.places * 1500)) (not (Calls.settings_fit given))
-
   -- ## Events
 
   module _ (h : ℕ) (ev : Event) where
@@ -776,21 +721,7 @@ module _ (doomed : ℕ → Bool) (token : Id → Token) (c : Config) (few : c.se
         (λ _. issue_verdict (with_retired s h cn q x) R (conn_less cn q) 1) (λ _. done_verdict (with_retired s h cn q x) R)
 
   drained_verdict : (h : ℕ) (cn : Conn) → Verdict (handles_event h drained) (gives done (with_drained s h cn)) (gives done (with_drained s₂ h cn))
-  drained_verdict h cn = inr (
-    refl,
-    λ _. record {
-      answer = refl;
-      ids = refl;
-      bytes = refl;
-      core = refl;
-      meant = refl;
-      rest = record {
-        entries = λ x. put_two s.initial initial₂ cn.opened_with None None x (Entries doomed f g) (λ _ _. tt) (λ _. R.entries x);
-        match = R.match;
-        slots = R.slots;
-      };
-    },
-  )
+  drained_verdict h cn = grind (arith, nat_tests)
 
   event_verdict : (h : ℕ) (ev : Event) (o : Option Conn) → Verdict (handles_event h ev) (Calls.event_of u s h ev o) (Calls.event_of u₂ s₂ h ev o)
   event_verdict h ev None = inr (refl, λ _. record { answer = refl; ids = refl; bytes = refl; core = refl; meant = refl; rest = R })
@@ -827,20 +758,17 @@ module _ (doomed : ℕ → Bool) (token : Id → Token) (c : Config) (few : c.se
         (accept_aside_in k now given room t (f k) refl (not_accepted k (accepts (own k) now given room) (eq-eqb k k refl) (D₁ k) (D₂ k) t)))
     | inr e ↦ accept_good_in k now given room e (f k) (g k) refl refl (R.slots k e) (not_nothing k (accepts (own k) now given room) (eq-eqb k k refl) (D₁ k) (D₂ k) e)
   ]
-  every_verdict (accepts (foreign i) now given room) D₁ D₂ =
-      foreign_verdict (accepts (foreign i) now given room) i (λ i. Calls.accept c u s i now given room) (λ i. Calls.accept c u₂ s₂ i now given room) refl (accept_foreign i now given room)
+  every_verdict (accepts (foreign i) now given room) D₁ D₂ = grind (arith, nat_tests)
   every_verdict (refuses (own k)) D₁ D₂ = elim (cases_Bool (doomed k)) [
     | inl t ↦ inl (aside_left (refuses (own k)) (One (refuses (own k))) (or_right _ _ t) (refuse_aside_in k t (f k) refl))
     | inr e ↦ spend_good_in k (λ i. Calls.refuse c u s i) (λ i. Calls.refuse c u₂ s₂ i) (Calls.refuse_of u s) (λ i. refl) (refuses (own k)) refl (λ v. refl) (f k) (g k) refl refl (R.slots k e) e e
         (not_nothing k (refuses (own k)) (eq-eqb k k refl) (D₁ k) (D₂ k) e)
   ]
-  every_verdict (refuses (foreign i)) D₁ D₂ = foreign_verdict (refuses (foreign i)) i (λ i. Calls.refuse c u s i) (λ i. Calls.refuse c u₂ s₂ i) refl
-      (λ e. subst₂ (λ (a b : Option Waiting). Verdict (refuses (foreign i)) (Calls.refuse_of u s a) (Calls.refuse_of u₂ s₂ b)) (sym (not_its_own s i e)) (sym (not_its_own s₂ i e)) (refusal (refuses (foreign i)) 5 refl))
+  every_verdict (refuses (foreign i)) D₁ D₂ = grind (arith, nat_tests)
   every_verdict (ignores (own k)) D₁ D₂ = elim (cases_Bool (doomed k)) [
     | inl t ↦ inl (aside_left (ignores (own k)) (One (ignores (own k))) (or_right _ _ t) (ignore_aside_in k t (f k) refl))
     | inr e ↦ spend_good_in k (λ i. Calls.ignore c s i) (λ i. Calls.ignore c s₂ i) (Calls.ignore_of s) (λ i. refl) (ignores (own k)) refl (λ v. refl) (f k) (g k) refl refl (R.slots k e) e e
         (not_nothing k (ignores (own k)) (eq-eqb k k refl) (D₁ k) (D₂ k) e)
   ]
-  every_verdict (ignores (foreign i)) D₁ D₂ = foreign_verdict (ignores (foreign i)) i (λ i. Calls.ignore c s i) (λ i. Calls.ignore c s₂ i) refl
-      (λ e. subst₂ (λ (a b : Option Waiting). Verdict (ignores (foreign i)) (Calls.ignore_of s a) (Calls.ignore_of s₂ b)) (sym (not_its_own s i e)) (sym (not_its_own s₂ i e)) (refusal (ignores (foreign i)) 5 refl))
+  every_verdict (ignores (foreign i)) D₁ D₂ = grind (arith, nat_tests)
   every_verdict (handles_event h ev) D₁ D₂ = event_verdict h ev (s.conns h)

@@ -15,9 +15,6 @@ attempt_once s t None p q = absurd cc
 attempt_once s t (Some (to_attempt n)) p q = grind (arith, nat_tests)
 attempt_once s t (Some (to_connection h)) p q = absurd cc
 
-pub none_entered : (s : ℕ) (o : Option Target) → is_attempt s o ≡ true → o ≡ None → ⊥
-none_entered s o p e = cc
-
 pub no_attempt_is : (s : ℕ) (o : Option Target) → no_attempt o ≡ true → is_attempt s o ≡ false
 no_attempt_is s None h = refl
 no_attempt_is s (Some (to_attempt t)) h = absurd cc
@@ -28,10 +25,6 @@ no_attempt_returns ws k None h = refl
 no_attempt_returns ws k (Some (to_attempt t)) h = absurd cc
 no_attempt_returns ws k (Some (to_connection c)) h = refl
 
--- an attempt with an identifier that is not empty has its entry under it
-goes_full : (f : ConnectionId → Option Target) (s : ℕ) (d : Datagram) → goes f s (Some d) ≡ true → empty d.dst ≡ false → is_attempt s (f d.dst) ≡ true
-goes_full f s d g n = grind (arith, nat_tests)
-
 pub named_entry : (f : ConnectionId → Option Target) (ws : List Waiting) (slot : ℕ) (d : Datagram) → Named f ws → lead ws slot ≡ Some d → empty d.dst ≡ false → is_attempt slot (f d.dst) ≡ true
 named_entry f ws slot d named h n = grind (arith, named slot)
 
@@ -41,13 +34,6 @@ named_entry f ws slot d named h n = grind (arith, named slot)
 goes_put : (f : ConnectionId → Option Target) (x : ConnectionId) (v : Option Target) (s : ℕ) (o : Option Datagram) → (empty x ≡ false → is_attempt s (f x) ≡ true → ⊥) → goes f s o ≡ true → goes (put f x v) s o ≡ true
 goes_put f x v s None never g = refl
 goes_put f x v s (Some d) never g = grind (arith, nat_tests, same_id_decides x d.dst)
-
--- an entry that names no attempt is replaced, or put under a new key
-pub named_put : (f : ConnectionId → Option Target) (ws : List Waiting) (x : ConnectionId) (v : Option Target) → Named f ws → no_attempt (f x) ≡ true → Named (put f x v) ws
-named_put f ws x v named h s = grind (arith, goes_put f x v s (lead ws s), no_attempt_is s (f x), named s)
-
-pub pointed_put : (f : ConnectionId → Option Target) (ws : List Waiting) (x : ConnectionId) (v : Option Target) → Pointed f ws → no_attempt v ≡ true → Pointed (put f x v) ws
-pointed_put f ws x v pointed h k = grind (arith, no_attempt_returns ws k v, pointed k)
 
 pub no_empty_put : (f : ConnectionId → Option Target) (x : ConnectionId) (v : Option Target) → no_empty f → no_empty (put f x v)
 no_empty_put f x v none q e = grind (arith, none q e, same_id_decides x q)
@@ -77,11 +63,6 @@ pub named_opened : (f : ConnectionId → Option Target) (ws : List Waiting) (w :
 named_opened f ws w named z s =
     grind (arith, nat_tests, same_id_decides w.first.dst w.first.dst, goes_put f w.first.dst (Some (to_attempt w.slot)) s (lead ws s), named s)
 
-back_opened : (ws : List Waiting) (w : Waiting) (j : ConnectionId) (o : Option Target) → lead ws w.slot ≡ None → returns_to ws j o ≡ true → returns_to (w ∷ ws) j o ≡ true
-back_opened ws w j None h r = refl
-back_opened ws w j (Some (to_connection c)) h r = refl
-back_opened ws w j (Some (to_attempt s)) h r = grind (arith, nat_tests)
-
 pub pointed_opened : (f : ConnectionId → Option Target) (ws : List Waiting) (w : Waiting) → Pointed f ws → lead ws w.slot ≡ None → Pointed (put f w.first.dst (Some (to_attempt w.slot))) (w ∷ ws)
 pointed_opened f ws w pointed h j = grind (arith, nat_tests)
 
@@ -110,10 +91,6 @@ pub no_empty_as : (f f' : ConnectionId → Option Target) → f' ≡ f → no_em
 no_empty_as f f' e none x t = ap (λ g. g x) e ∙ none x t
 
 -- ## The empty identifier, by a test
-
-is_none_is : {A : Type 0} (o : Option A) → is_none o ≡ true → o ≡ None
-is_none_is None h = refl
-is_none_is (Some a) h = absurd cc
 
 pub no_empty_tells : (f : ConnectionId → Option Target) → no_empty f → (k : ConnectionId) → clear_at f k ≡ true
 no_empty_tells f none k = grind (arith, nat_tests)
