@@ -33,6 +33,7 @@ fn run_all<S: Supplies>(
     ensures ran { (E : Modelled) → Built E (view e.old).settings (view e.old).width (view e.old).number (S.all supplies.old) → Ran E calls.now (length calls.now) (S.all supplies.old) (S.all supplies.new) pool.new blocks.old blocks.new answers.old answers.new }
     ensures state { (E : Modelled) → Built E (view e.old).settings (view e.old).width (view e.old).number (S.all supplies.old) → (view e.new).state ≡ (world_so E calls.now (length calls.now)).state }
 {
+    // No `zip`: the pool is lent whole to each step, since a later call spends what an earlier one opened, and the rest is found by the same number.
     for (i, call) in calls.iter().enumerate() {
         answers[i] = step(e, supplies, pool, &mut blocks[i], i, call);
     }
@@ -76,6 +77,7 @@ fn room_fits(n: usize, pool: &[Option<Attempt>], blocks: usize, answers: usize) 
 /// Runs a list of calls on a new endpoint over given memory, and gives the endpoint back: for the call of number `i` the answer goes to `answers[i]`, a
 /// reset to the front of `blocks[i]`, and an attempt that it opens to `pool[i]`, until a later call spends it. If the set-up is refused, or the host lends
 /// less than one place of each for a call or a pool with an attempt in it, no call is made, and the endpoint is one that refuses by 2.
+// Three slices and no struct of them: a clause names the fields of one by value by place only, and of one behind a `&mut` it must also say that each is still the same slice.
 pub fn run<'a, S: Supplies>(
     supplies: &mut S,
     memory: Memory<'a>,
