@@ -18,6 +18,7 @@ use records::incoming::Attempt;
 use supply::suppliers::Supplies;
 
 /// Makes the calls in order, on an endpoint where nothing was called yet.
+// That it is ready is a clause here and in step.rt: the type that says so, `Ready`, stays the endpoint's own, so that no host can put one in another's place.
 fn run_all<S: Supplies>(
     e: &mut Endpoint,
     supplies: &mut S,

@@ -59,6 +59,7 @@ fn note(
     }
 }
 
+// That the endpoint is ready is a clause here and below, for the reason beside `run_all`.
 fn handle_at<S: Supplies>(
     e: &mut Endpoint,
     supplies: &mut S,
