@@ -5,7 +5,7 @@ use Rattle.records.specs.declared.shared.ConnectionId.{ConnectionId}
 use Rattle.records.specs.Ids.{empty}
 use Rattle.records.specs.Received.{Datagram}
 use Rattle.records.specs.Same.{same_id_decides}
-use Rattle.model.specs.Endpoint.{Waiting, Target, to_attempt, to_connection, put, add_kept, without, is_none}
+use Rattle.model.specs.Endpoint.{Waiting, Target, to_attempt, to_connection, put, add_kept, without}
 use Rattle.waiting.specs.Groups.{holding}
 use Rattle.waiting.specs.Leads.{lead, is_attempt, no_attempt, attempt_of, goes, is_dst, returns_to, clear_at, Named, Pointed, no_empty}
 use Rattle.waiting.proofs.Leading.{lead_without, lead_kept, lead_held}
