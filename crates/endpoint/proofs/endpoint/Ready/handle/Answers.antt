@@ -4,7 +4,6 @@ use Rattle.records.specs.declared.cause.Cause.TheVariants.{Malformed}
 use Rattle.records.specs.Received.{Datagram, seen, well_formed}
 use Rattle.supply.specs.Meaning.{Supplied}
 use Rattle.index.specs.Routes.{target_of}
-use Rattle.index.specs.declared.target.RouteDatagramTo.TheVariants.{Incoming, Connection}
 use Rattle.model.specs.Calls.{fits}
 use Rattle.endpoint.specs.declared.endpoint.Ready.{Ready}
 use Rattle.endpoint.specs.declared.handled.Handled.TheVariants.{Delivered}

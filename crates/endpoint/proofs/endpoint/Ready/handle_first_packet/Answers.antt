@@ -1,7 +1,6 @@
 use Rattle.std.proofs.Common.{◌≡◌, ℕ, Bool, true, false, not, ◌&&◌, ◌||◌, eqb, ltb, sym, ap, ◌∙◌, subst, ap₂, Ok, Err, rules}
 use Rattle.std.proofs.lemmas.Bool.{leb-false}
 use Rattle.records.specs.declared.cause.Cause.TheVariants.{Undecodable, ReservedBits}
-use Rattle.records.specs.Causes.{cause_number}
 use Rattle.records.specs.Received.{Datagram, seen}
 use Rattle.supply.specs.declared.answers.Unopened.TheVariants as unopened
 use Rattle.supply.specs.Meaning.{Supplied}

@@ -1,5 +1,4 @@
 use Rattle.std.proofs.Common.{◌≡◌, ◌+◌, length, take, Ok, Err, sym, refl, ap, ◌∙◌, subst, rules}
-use Rattle.records.specs.Causes.{cause_number}
 use Rattle.records.specs.Received.{seen, size}
 use Rattle.supply.specs.Meaning.{token_of}
 use Rattle.model.specs.Endpoint.{row}
