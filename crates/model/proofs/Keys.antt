@@ -13,6 +13,13 @@ module _ {K X : Type 0} (e : K → K → Bool) (is : (x y : K) → Decides (e x 
   pub up_read : (q : K) (P : Option X → Type 0) → (q ≡ k → P v) → ((q ≡ k → ⊥) → P (f q)) → P (update e f k v q)
   up_read q P here there = cond_both (e k q) v (f q) P (λ t. here (sym ((is k q).0 t))) (λ t. there (λ s. both_ways (e k q) t ((is k q).1 (sym s))))
 
+  -- the test may stand either way round
+  pub update_turned : (q : K) → update e f k v q ≡ cond (e q k) v (f q)
+  update_turned q =
+      cond_both (e q k) v (f q) (λ o. update e f k v q ≡ o)
+      (λ t. up_read q (λ o. o ≡ v) (λ _. refl) (λ n. absurd (n ((is q k).0 t))))
+      (λ t. up_read q (λ o. o ≡ f q) (λ s. absurd (both_ways (e q k) t ((is q k).1 s))) (λ _. refl))
+
 module _ {X : Type 0} (f : Id → Option X) where
   pub put_read : (x : Id) (v : Option X) (q : Id) (P : Option X → Type 0) → (empty x ≡ false → q ≡ x → P v) → ((empty x ≡ false → q ≡ x → ⊥) → P (f q)) → P (put f x v q)
   put_read x v q P here there =

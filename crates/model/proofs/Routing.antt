@@ -27,6 +27,11 @@ pub record Kept (E : Endpoint) (cs : List Labelled) (n : ℕ) : Type 0 where
   pub sound : Sound E.setup.generator.len (after E.setup cs).state
   pub agrees : Agrees (history E cs) (after E.setup cs).state.conns (after E.setup cs).state.waiting (after E.setup cs).slots n
 
+-- the labels of a list rise, and stay below n
+abbrev pub Rising : List Labelled → ℕ → Type 0
+Rising [] n = Unit {0}
+Rising (c ∷ cs) n = (c.label < n) × Rising cs c.label
+
 pub kept_more : (E : Endpoint) (cs : List Labelled) (n m : ℕ) → n ≤ m → Kept E cs n → Kept E cs m
 kept_more E cs n m l k = grind (arith, nat_tests)
 

@@ -35,6 +35,13 @@ goes_put : (f : ConnectionId → Option Target) (x : ConnectionId) (v : Option T
 goes_put f x v s None never g = refl
 goes_put f x v s (Some d) never g = grind (arith, nat_tests, same_id_decides x d.dst)
 
+-- an entry that names no attempt is replaced, or put under a new key
+pub named_put : (f : ConnectionId → Option Target) (ws : List Waiting) (x : ConnectionId) (v : Option Target) → Named f ws → no_attempt (f x) ≡ true → Named (put f x v) ws
+named_put f ws x v named h s = grind (arith, nat_tests, no_attempt_is s (f x) h, goes_put f x v s (lead ws s), named s)
+
+pub pointed_put : (f : ConnectionId → Option Target) (ws : List Waiting) (x : ConnectionId) (v : Option Target) → Pointed f ws → no_attempt v ≡ true → Pointed (put f x v) ws
+pointed_put f ws x v pointed h k = grind (arith, nat_tests, no_attempt_returns ws k v h, same_id_decides x k, pointed k)
+
 pub no_empty_put : (f : ConnectionId → Option Target) (x : ConnectionId) (v : Option Target) → no_empty f → no_empty (put f x v)
 no_empty_put f x v none q e = grind (arith, none q e, same_id_decides x q)
 
