@@ -1,7 +1,8 @@
 -- Lists of identifiers in turn.
-use Rattle.std.specs.Prelude.{◌≡◌, ℕ, ◌+◌, ◌%◌, ◌<◌, true, ◌&&◌, List, length, get_or, ◌==◌, nat_le, slice_index_or, refl}
-use Rattle.std.proofs.Common.{ap, ◌∙◌, mod-lt, arith}
+use Rattle.std.specs.Prelude.{◌≡◌, ℕ, ◌+◌, ◌%◌, ◌<◌, ◌≤◌, Bool, true, ◌&&◌, ◌||◌, List, length, get_or, take, drop, ◌==◌, nat_le, slice_index_or, refl}
+use Rattle.std.proofs.Common.{sym, ap, ◌∙◌, mod-lt, mod-eq_of_lt, arith}
 use Rattle.std.proofs.Math.Nat.{mod-add-mod}
+use Rattle.std.proofs.lemmas.List.{at_drop_more, get_or_default, get_or-take, length-take-le}
 use Rattle.std.proofs.lemmas.Bool.{eqb-true, and_parts, leb-true}
 use Rattle.std.proofs.lemmas.List.Sums.{AllPass-from_list_all}
 use Rattle.std.proofs.lemmas.List.Folds.{list_any_at}
@@ -23,6 +24,18 @@ in_turn_lawful xs at t =
       sized = λ i. eqb-true _ _ (AllPass-from_list_all (λ x. x.len == (get_or xs 0 no_id).len) xs like _ no_id (inside i));
       stays = λ i j h. let x = get_or xs ((at + i) % length xs) no_id in list_any_at (λ y. same_id y x) xs _ no_id (inside i) ((same_id_decides x x).1 refl);
     }
+
+-- a search of a list, one identifier on
+pub listed_more : (xs : List ConnectionId) (i : ℕ) (x y : ConnectionId) (b : Bool) → i < length xs → x ≡ slice_index_or xs i x → b ≡ same_id x y → listed (drop i xs) y ≡ (b || listed (drop (i + 1) xs) y)
+listed_more xs i x y b h e t = at_drop_more (λ l. listed l y) xs i x h ∙ ap (λ z. same_id z y || listed (drop (i + 1) xs) y) (sym e) ∙ ap (λ a. a || listed (drop (i + 1) xs) y) (sym t)
+
+-- the identifier at the place is the next
+pub in_turn_here : (xs : List ConnectionId) (n at : ℕ) (d : ConnectionId) → n ≤ length xs → at < n → slice_index_or xs at d ≡ (in_turn (take n xs) at).draw 0
+in_turn_here xs n at d few h =
+    let long : length (take n xs) ≡ n = length-take-le n xs few in
+    let z : at + 0 < length (take n xs) = omega arith in
+    let here : (at + 0) % length (take n xs) ≡ at = mod-eq_of_lt z ∙ omega arith in
+    get_or_default xs at d no_id (omega arith) ∙ sym (get_or-take n xs at no_id h) ∙ ap (λ k. get_or (take n xs) k no_id) (sym here)
 
 -- one place on, and from the last to the first
 pub in_turn_after : (xs : List ConnectionId) (at n : ℕ) → n ≡ length xs → in_turn xs ((at + 1) % n) ≡ shifted 1 (in_turn xs at)
