@@ -17,6 +17,7 @@ fn ipv4(heap: Global, word: &str, field: Field) -> Result<Ipv4Addr, Unread>
 }
 
 /// The IPv6 address of these octets.
+// Beside `ipv4`, and no generic: std states the octets of the one, and the segments of the other.
 fn ipv6_of(octets: &[u8; 16]) -> Ipv6Addr
     ensures { ipv6_octets result ≡ octets.now }
 {

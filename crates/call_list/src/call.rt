@@ -25,10 +25,12 @@ fn ecn_mark(word: &str) -> Result<Option<u8>, Unread>
     if word == "-" {
         return Ok(None);
     }
+    // Clamped and not converted: a mark that is too wide is to stay one that can be brought.
     Ok(Some(number::<u64>(word, Field::Ecn)?.min(255) as u8))
 }
 
 /// The kind of a datagram's first packet.
+// A function, here and for the other words, and no `FromStr`: the types are other crates', and a refusal says which field the word is of.
 fn kind_of(word: &str) -> Result<Kind, Unread> {
     match word {
         "initial" => Ok(Kind::Initial),

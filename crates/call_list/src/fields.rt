@@ -15,6 +15,7 @@ pub fn parts<'a>(heap: Global, text: &'a str, by: char) -> Result<Vec<&'a str>, 
 }
 
 /// A number that fits its type.
+// A word and its field stay two parameters: a struct of them would be made at each call, and kept by none.
 pub fn number<T: TryFrom<u64>>(word: &str, field: Field) -> Result<T, Unread>
 where
     T::Error: Drop,

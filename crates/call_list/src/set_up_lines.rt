@@ -38,6 +38,7 @@ pub fn settings(words: &[&str]) -> Result<Settings, Unread> {
         word => Some(number(word, Field::IdleTimeout)?),
     };
     Ok(Settings {
+        // Clamped and not converted: past 64 each number is refused alike, by the set-up.
         max_incoming: number::<u64>(incoming, Field::MaxIncoming)?.min(u32::MAX as u64) as u32,
         incoming_buffer_size: number(buffer, Field::Buffer)?,
         incoming_buffer_size_total: number(total, Field::BufferTotal)?,
@@ -78,6 +79,7 @@ pub fn source(heap: Global, words: &[&str]) -> Result<Vec<u8>, Unread> {
 }
 
 /// The line of the signer.
+// Like `source` but for every word: one function for both would be given five of them.
 pub fn signer(heap: Global, words: &[&str]) -> Result<[u8; 32], Unread> {
     let ["signer", word] = words else {
         return Err(no_line(Form::Signer));

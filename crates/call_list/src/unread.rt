@@ -16,6 +16,7 @@ impl Unread {
 }
 
 /// A line that is outside this form.
+// Three names and no `From`: the call says whether the line or the word is wrong, or the time for it.
 pub fn no_line(form: Form) -> Unread {
     Failure::Fault(Trouble::Line(form))
 }

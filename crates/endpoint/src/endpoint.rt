@@ -38,6 +38,7 @@ struct Ready<'a> {
     /// The datagrams that wait for attempts.
     places: Places<'a>,
     /// The free slots for attempts.
+    // Numbers and no `Box`, here and below: there is no heap.
     slots: FreeList<'a>,
     connections: Connections<'a>,
     /// The free handles for connections.

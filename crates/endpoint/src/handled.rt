@@ -13,6 +13,7 @@ pub enum Handled {
     /// A close is to be sent; it stands in the lent place.
     Closed,
     /// A stateless reset is to be sent: so many bytes of the output.
+    // A length and no slice, which would keep the caller's buffer borrowed.
     Reset(usize),
 }
 

@@ -24,6 +24,7 @@ pub struct ConnectionMeta {
 }
 
 /// The connections by handle; a place without one is `None`.
+// A handle is a number and no `Box`: there is no heap.
 #[derive(Drop)]
 pub struct Connections<'a> {
     pub items: &'a mut [Option<ConnectionMeta>],

@@ -20,6 +20,7 @@ fn clear(items: &mut [Option<ConnectionMeta>])
     ensures dead { (k : ℕ) → k < length items.new → slice_index_or items.new k None ≡ None }
     ensures long { length items.new ≡ length items.old }
 {
+    // A loop and not `fill_with`, which says by a run of calls what a clause here says by place.
     for place in items.iter_mut() {
         *place = None;
     }

@@ -22,6 +22,7 @@ pub fn set_initial(
     if dst_cid.is_empty() {
         return;
     }
+    // The same two calls as `set` of holders, whose clause says less of the count.
     match next_entry(initial.get(dst_cid), event) {
         Some(to) => {
             let _ = initial.put(dst_cid, to);

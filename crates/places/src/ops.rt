@@ -9,7 +9,7 @@ use crate::places::{Blocks, Places};
 use crate::record::{Place, Written};
 use crate::scan::{attempts_in, bytes_in, find_in, total_in};
 use crate::stack::Stack;
-use records::packet::{Datagram, Kept};
+use records::packet::{Datagram, Kept, Received};
 
 impl<'a> Blocks<'a> {
     // Lays the bytes at the front of a block.
@@ -136,17 +136,17 @@ impl<'a> Places<'a> {
     }
 
     /// Keeps a datagram of at most 1500 bytes, behind all others, where a place is free.
-    pub fn keep(&mut self, slot: u32, first: bool, datagram: Datagram, bytes: &[u8])
-        requires short { length bytes.now ≤ 1500 }
+    pub fn keep(&mut self, slot: u32, first: bool, received: &Received)
+        requires short { length received.now.bytes.now ≤ 1500 }
         requires room { length (entries self.old) < width self.old }
-        ensures entries { entries self.new ≡ entries self.old ++ (arrival slot first datagram bytes.now ∷ []) }
+        ensures entries { entries self.new ≡ entries self.old ++ (arrival slot first received.now.datagram.now received.now.bytes.now ∷ []) }
         ensures width { width self.new ≡ width self.old }
     {
         let block = self.records.free_block();
-        self.blocks.lay(block, bytes);
+        self.blocks.lay(block, received.bytes);
         let kept = Kept {
-            datagram,
-            len: bytes.len(),
+            datagram: *received.datagram,
+            len: received.bytes.len(),
         };
         self.records.push(Place {
             slot,

@@ -4,7 +4,7 @@ ghost use Rattle.places.specs.Entries.{place_of, place_weight};
 use records::packet::Kept;
 
 /// A waiting datagram: whose it is, and the block that holds its bytes. A free place names a block too.
-#[derive(Clone, Copy)]
+#[derive(Clone, Copy, Default)]
 pub struct Place {
     /// The slot of its attempt.
     pub slot: u32,
@@ -32,6 +32,7 @@ impl Place {
 }
 
 /// How many records were written, and how many bytes.
+// Counts and no slices: slices would keep the caller's buffers borrowed.
 #[derive(Clone, Copy)]
 pub struct Written {
     pub count: usize,

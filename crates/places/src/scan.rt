@@ -16,6 +16,7 @@ pub fn total_in(items: &[Place]) -> u64
 }
 
 /// The same of one attempt.
+// A function of its own: one with a test would ask each caller for clauses of a closure.
 pub fn bytes_in(items: &[Place], slot: u32) -> u64
     requires { sum_by place_weight (filter (place_of slot) items.now) < 2 ^ 64 }
     ensures { result ≡ sum_by place_weight (filter (place_of slot) items.now) }

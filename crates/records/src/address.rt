@@ -9,6 +9,7 @@ pub struct FourTuple {
     pub local_ip: Option<IpAddr>,
 }
 
+// By hand: an address of std has no default.
 impl Default for FourTuple {
     ghost is_default = { IsBlank };
 

@@ -31,6 +31,7 @@ pub enum Cause {
 
 impl Cause {
     /// The cause's number.
+    // A method and no `From`: the call then says what the number is of.
     pub fn number(self) -> u8
         ensures { result ≡ cause_number self }
     {

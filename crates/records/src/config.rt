@@ -10,6 +10,7 @@ pub struct Settings {
     /// The least time between two stateless resets, in milliseconds.
     pub min_reset_interval: u64,
     /// How long an attempt may wait, in milliseconds; 0 is without limit.
+    // 0 beside `None`, as the transport parameter may be given either way.
     pub max_idle_timeout: Option<u64>,
     /// Whether a new connection is told of a preferred address.
     pub preferred_address: bool,

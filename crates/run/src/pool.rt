@@ -30,6 +30,7 @@ pub(crate) fn take(pool: &mut [Option<Attempt>], i: usize) -> Option<Attempt>
 pub(crate) fn is_clear(pool: &[Option<Attempt>]) -> bool
     ensures { result ≡ all_none pool.now (length pool.now) }
 {
+    // A loop and not `all`: tried, and what the closure says of each attempt did not close to the definition's test.
     for attempt in pool {
         if attempt.is_some() {
             return false;

@@ -11,29 +11,13 @@ use calls::answer::Answer;
 use calls::call::{Arrival, Brought, Call, LentCall};
 use endpoint::endpoint::Endpoint;
 use endpoint::handled::{HandedBack, Handled};
-use records::address::FourTuple;
 use records::cause::Cause;
 use records::incoming::Attempt;
 use records::packet::{Close, Received};
-use records::shared::ConnectionId;
-use std::net::{IpAddr, Ipv4Addr, SocketAddr};
 use supply::suppliers::Supplies;
 
-// What a place for a close holds before one is put there.
-fn blank_close() -> Close {
-    Close {
-        code: 0,
-        version: 0,
-        addresses: FourTuple {
-            remote: SocketAddr::new(IpAddr::V4(Ipv4Addr::UNSPECIFIED), 0),
-            local_ip: None,
-        },
-        dst_cid: ConnectionId::empty(),
-        src_cid: ConnectionId::empty(),
-    }
-}
-
 // What `handle` says, as a plain value; an attempt goes to the pool.
+// The pool and a number, here and below, and not the place alone: what a step promises is of the whole pool.
 fn note(
     handled: Result<Handled, Cause>,
     close: Close,
@@ -59,7 +43,7 @@ fn note(
     }
 }
 
-// That the endpoint is ready is a clause here and below, for the reason beside `run_all`.
+// That the endpoint is ready is a clause here and below, for the reason beside `run_all`; so is `Frame`, since it is said of two states.
 fn handle_at<S: Supplies>(
     e: &mut Endpoint,
     supplies: &mut S,
@@ -75,7 +59,7 @@ fn handle_at<S: Supplies>(
     ensures later { EmptyPast i pool.old pool.new }
     ensures frame { Frame (view e.old) (view e.new) }
 {
-    let mut close = blank_close();
+    let mut close = Close::default();
     let received = Received {
         datagram: &arrival.datagram,
         bytes: arrival.bytes,

@@ -9,6 +9,9 @@ use call_list::fault::Failure;
 use call_list::list::parse;
 use std::io::Read;
 
+/// What is printed of a set-up that is refused.
+const SET_UP_REFUSED: &str = "set-up refused 2";
+
 // What the whole of the standard input says.
 fn input(rt: &HostRuntime) -> anyhow::Result<String> {
     let mut text = String::new(rt.alloc());
@@ -20,7 +23,7 @@ fn run(rt: &HostRuntime) -> anyhow::Result<()> {
     let text = input(rt)?;
     let parsed = match parse(rt.alloc(), text.as_str()) {
         Ok(parsed) => parsed,
-        Err(Failure::SetUp) => return Ok(println!(rt; "set-up refused 2")?),
+        Err(Failure::SetUp) => return Ok(println!(rt; "{SET_UP_REFUSED}")?),
         Err(Failure::Fault(fault)) => {
             eprintln!(rt; "{fault}")?;
             return Err(anyhow!("\"the set-up cannot be read\""));
@@ -29,7 +32,7 @@ fn run(rt: &HostRuntime) -> anyhow::Result<()> {
     };
     let end = parsed.end;
     match answers_of(rt.alloc(), parsed)? {
-        None => println!(rt; "set-up refused 2")?,
+        None => println!(rt; "{SET_UP_REFUSED}")?,
         Some(lines) => {
             for line in lines.as_slice() {
                 println!(rt; "{line}")?;

@@ -3,7 +3,6 @@ use index::connection::ConnectionMeta;
 use index::target::RouteDatagramTo;
 use places::record::Place;
 use records::address::FourTuple;
-use records::packet::Kept;
 use records::shared::ConnectionId;
 use records::token::RemoteToken;
 use std::alloc::{AllocError, Global};
@@ -24,23 +23,13 @@ pub struct Storage {
     connection_reset_tokens: Vec<Slot<RemoteToken, u32>>,
 }
 
-// A blank and not `Default`, which only the crate of places could give.
-fn no_place() -> Place {
-    Place {
-        slot: 0,
-        first: false,
-        block: 0,
-        kept: Kept::default(),
-    }
-}
-
 impl Storage {
     /// Memory for an endpoint with so many places for datagrams.
     pub fn new(heap: Global, places: usize) -> Result<Storage, AllocError> {
         let mut connections = Vec::new(heap);
         connections.resize_with(128, || None)?;
         Ok(Storage {
-            places: vec![in heap; no_place(); places]?,
+            places: vec![in heap; Place::default(); places]?,
             blocks: vec![in heap; [0; 1500]; places]?,
             connections,
             handles: vec![in heap; 0; 128]?,

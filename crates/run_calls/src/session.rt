@@ -133,6 +133,7 @@ fn lines_of(
 }
 
 /// Runs a call list that was read: the text of its answers, or `None` where the set-up is refused.
+// `None` and no error: there is one refusal, and it is an answer that is printed.
 pub fn answers_of(heap: Global, parsed: Parsed) -> Result<Option<Vec<String>>, AllocError> {
     let Parsed {
         set_up,

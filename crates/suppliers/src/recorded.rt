@@ -8,7 +8,7 @@ use supply::supply::ByteSource;
 #[derive(Drop)]
 pub struct Recorded {
     bytes: Vec<u8>,
-    // `vec::IntoIter` needs no place, and a lemma for the bound below and another for its end.
+    // A place and no `vec::IntoIter`, which needs a lemma for the bound below and another for its end.
     at: usize,
     // The law on the source is owed at every list, and does not hold by the type of the bytes alone.
     ghost small: { (k : ℕ) → slice_index bytes.items k < 256 },

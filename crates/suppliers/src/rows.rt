@@ -21,6 +21,7 @@ pub struct Row {
     pub greets: Result<(), HandshakeError>,
 }
 
+// By hand: a `Result` has no default.
 impl Default for Row {
     ghost is_default = { λ r. (r.version ≡ 0) × (r.knows ≡ false) × (r.opens ≡ Err Closed) × (r.proves ≡ false) × (r.greets ≡ Err Other) };
 
@@ -59,6 +60,7 @@ impl RowDoor {
     }
 }
 
+// A default in each answer, and not that of a blank row: the definition says each by itself.
 impl Door for RowDoor {
     ghost says = { λ s. rows_say s.rows.items };
 

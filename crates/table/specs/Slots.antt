@@ -82,10 +82,6 @@ pub record Way {K V : Type 0} (code : K → ℕ) (s : List (Slot K V)) : Type 0 
 abbrev pub Reached : {K V : Type 0} → (K → K → Bool) → (K → ℕ) → List (Slot K V) → Type 0
 Reached same code s = (w : Way code s) → stops same w.key (slice_index_or s (around (length s) (home (length s) (code w.key)) w.step) Empty) ≡ false
 
--- Each key can be reached, and the count is that of the keys.
-abbrev pub Sound : {K V : Type 0} → (K → K → Bool) → (K → ℕ) → List (Slot K V) → ℕ → Type 0
-Sound same code s count = Reached same code s × (count ≡ used s)
-
 -- Where a key stands, with its value; or, in a table whose keys can be reached, that no place answers for it.
 abbrev pub Stands : {K V : Type 0} → (K → K → Bool) → (K → ℕ) → List (Slot K V) → K → Option (Spot V) → Type 0
 Stands same code s k (Some x) = (x.at < length s) × (slice_index_or s x.at Empty ≡ Used k x.value)

@@ -40,9 +40,7 @@ pub(crate) fn place<K: Key, V: Copy>(slots: &[Slot<K, V>], k: K) -> Option<Spot<
     if slots.is_empty() {
         return None;
     }
-    let Some(at) = seek(slots, home_of(k, slots.len()), k) else {
-        return None;
-    };
+    let at = seek(slots, home_of(k, slots.len()), k)?;
     let slot = slots[at];
     match slot {
         Slot::Used(_, value) => Some(Spot { at, value }),
@@ -73,9 +71,7 @@ pub(crate) fn put_in<K: Key, V: Copy>(
     if slots.is_empty() {
         return Err(Full);
     }
-    let Some(p) = vacant(slots, home_of(k, slots.len())) else {
-        return Err(Full);
-    };
+    let p = vacant(slots, home_of(k, slots.len())).ok_or(Full)?;
     slots[p] = Slot::Used(k, v);
     Ok(None)
 }
@@ -104,9 +100,7 @@ pub(crate) fn remove_in<K: Key, V: Copy>(slots: &mut [Slot<K, V>], k: K) -> Opti
     ensures reached { Reached K.PartialEq.eq K.Key.code slots.old → Reached K.PartialEq.eq K.Key.code slots.new }
     ensures done { Reached K.PartialEq.eq K.Key.code slots.old → Removed K.PartialEq.eq slots.old slots.new k result }
 {
-    let Some(x) = place(slots, k) else {
-        return None;
-    };
+    let x = place(slots, k)?;
     slots[x.at] = Slot::Freed;
     tidy(slots, x.at);
     Some(x.value)

@@ -10,8 +10,8 @@ pub struct Table<'a, K: Key, V: Copy> {
     slots: &'a mut [Slot<K, V>],
     // A count of its own: the keys do not lie at the front.
     count: usize,
-    ghost reached: { Reached K.PartialEq.eq K.Key.code slots.now },
-    ghost counted: { count ≡ used slots.now },
+    pub ghost reached: { Reached K.PartialEq.eq K.Key.code slots.now },
+    pub ghost counted: { count ≡ used slots.now },
 }
 
 /// Makes each place empty.
@@ -48,6 +48,7 @@ impl<'a, K: Key, V: Copy> Table<'a, K, V> {
 
     /// Puts `v` under `k` and answers what stood there; only a new key is refused, and only by a full table.
     pub fn put(&mut self, k: K, v: V) -> Result<Option<V>, Full>
+        // Said of two states, here and below: an invariant speaks of one.
         ensures long { length self.new.slots.now ≡ length self.old.slots.now }
         ensures done { Put K.PartialEq.eq self.old.slots.now self.new.slots.now k v result }
     {

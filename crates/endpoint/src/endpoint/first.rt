@@ -62,6 +62,7 @@ impl<'a> Ready<'a> {
         received: &Received,
         close: &mut Close,
     ) -> Result<Handled, Cause>
+        // A clause here, in `keep`, `open` and `stateless_reset`, and no invariant of `Received`: `handle` is given longer ones too, and refuses them.
         requires short { length received.now.bytes.now ≤ 1500 }
         requires absent { (state_in self.old).initial received.now.datagram.now.dst_cid ≡ None }
         ensures { (out : List ℕ) → Answered (view_of self.old) (view_of self.new) (S.all supplies.old) (S.all supplies.new) out out close.old close.new (seen received.now) result (first_packet (config_of (view_of self.old) (S.all supplies.old)) (supply_of (S.all supplies.old)) (state_in self.old) (seen received.now)) }

@@ -25,8 +25,7 @@ impl<'a> Ready<'a> {
         if self.no_place() {
             return Err(Cause::NoPlace);
         }
-        self.places
-            .keep(slot, false, *received.datagram, received.bytes);
+        self.places.keep(slot, false, received);
         Ok(Handled::Kept(slot))
     }
 }

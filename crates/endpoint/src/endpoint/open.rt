@@ -28,8 +28,7 @@ impl<'a> Ready<'a> {
     {
         // There is a free slot, as fewer attempts wait than there are slots.
         let slot = self.slots.pop().unwrap();
-        self.places
-            .keep(slot, true, *received.datagram, received.bytes);
+        self.places.keep(slot, true, received);
         set_initial(
             &mut self.index.connection_ids_initial,
             received.datagram.dst_cid,

@@ -95,6 +95,7 @@ impl<'a> Ready<'a> {
 impl<'a> Endpoint<'a> {
     /// An endpoint where nothing waits and no connection lives, over given memory with `w` places. If the settings, `w` or the memory do not fit, it refuses
     /// every call by 2 and leaves the memory alone.
+    // `w` and the number stay beside the settings, as in the Rust the settings are the host's alone.
     pub fn new(memory: Memory<'a>, settings: Settings, w: usize, number: u32) -> Endpoint<'a>
         ensures ready { (view result).ready ≡ set_up_fits settings.max_incoming w (sizes_of memory.entry) }
         ensures state { (view result).ready ≡ true → (view result).state ≡ new_state }

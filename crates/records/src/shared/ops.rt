@@ -61,6 +61,7 @@ impl ConnectionId {
     }
 }
 
+// By hand: a type with invariants has no derived default.
 impl Default for ConnectionId {
     ghost is_default = { λ x. x ≡ no_id };
 
