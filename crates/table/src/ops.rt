@@ -26,7 +26,7 @@ fn seek<K: Key, V: Copy>(slots: &[Slot<K, V>], start: usize, k: K) -> Option<usi
 }
 
 /// The nearest place from `start` on, going round, that holds no key.
-pub fn vacant<K: Copy, V: Copy>(slots: &[Slot<K, V>], start: usize) -> Option<usize>
+fn vacant<K: Copy, V: Copy>(slots: &[Slot<K, V>], start: usize) -> Option<usize>
     requires { start < length slots.now }
     ensures { result ≡ nearest vacates slots.now start }
 {
