@@ -1,5 +1,5 @@
 -- What the places of connections mean.
-use Rattle.std.specs.Prelude.{ℕ, cond, List, map, Some, None, Option, slice_index_or}
+use Rattle.std.specs.Prelude.{ℕ, cond, List, map, take, Some, None, Option, slice_index_or}
 use Rattle.std.specs.Option.{option_map}
 use Rattle.records.specs.Ids.{empty}
 use Rattle.model.specs.Records.{Id}
@@ -16,7 +16,7 @@ abbrev pub conn : ConnectionMeta → Conn
 conn m = record {
   opened_with = m.init_cid;
   count = m.cids_issued;
-  held = map held_of m.loc_cids.items;
+  held = map held_of (take m.held m.loc_cids);
   addresses = m.addresses;
   sender = m.reset_token;
 }

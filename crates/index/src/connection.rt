@@ -1,4 +1,5 @@
-use arrayvec::ArrayVec;
+ghost use Rattle.std.specs.Prelude.{◌≡◌, ◌≤◌, length};
+
 use records::address::FourTuple;
 use records::shared::ConnectionId;
 use records::token::RemoteToken;
@@ -11,16 +12,20 @@ pub struct Held {
 }
 
 /// What the endpoint knows of a connection while it lives.
-#[derive(Drop)]
+#[derive(Clone, Copy)]
 pub struct ConnectionMeta {
     /// The identifier that the client's first datagram bore.
     pub init_cid: ConnectionId,
     /// How many identifiers it was issued.
     pub cids_issued: u32,
-    /// The identifiers that it holds.
-    pub loc_cids: ArrayVec<Held, 8>,
+    /// How many of `loc_cids`, from the front, it holds.
+    // A count beside an array: the kit's `ArrayVec` is not `Copy`, as a place that a host fills is.
+    pub held: usize,
+    pub loc_cids: [Held; 8],
     pub addresses: FourTuple,
     pub reset_token: Option<RemoteToken>,
+    ghost few: { held ≤ 8 },
+    ghost wide: { length loc_cids ≡ 8 },
 }
 
 /// The connections by handle; a place without one is `None`.

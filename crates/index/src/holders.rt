@@ -10,7 +10,7 @@ fn held_by(place: &Option<ConnectionMeta>) -> usize
     ensures few { result ≤ 8 }
 {
     match place {
-        Some(meta) => meta.loc_cids.len(),
+        Some(meta) => meta.held,
         None => 0,
     }
 }

@@ -1,4 +1,4 @@
-ghost use Rattle.std.specs.Prelude.{◌≡◌, ℕ, ◌<◌, length, MatchOption};
+ghost use Rattle.std.specs.Prelude.{◌≡◌, ℕ, ◌<◌, ◌≤◌, length, MatchOption};
 ghost use Rattle.std.specs.Option.{option_map};
 ghost use Rattle.records.specs.Received.{seen, last_16};
 ghost use Rattle.model.specs.Endpoint.{route, held_route, initial_route, pair_route, sender_route};
@@ -9,12 +9,23 @@ use crate::target::RouteDatagramTo;
 use records::packet::Received;
 use records::token::{RemoteToken, ResetToken};
 
-/// The last 16 bytes, where a stateless reset has its token, if there are so many.
-pub fn last_16(bytes: &[u8]) -> Option<ResetToken>
+/// The last 16 bytes, where a stateless reset has its token.
+pub fn last_16(bytes: &[u8]) -> ResetToken
+    requires { 16 ≤ length bytes.now }
+    ensures { result.bytes ≡ last_16 bytes.now }
+{
+    let bytes = *bytes.last_chunk().unwrap();
+    ResetToken { bytes }
+}
+
+/// The token at the end, if there are so many bytes.
+pub fn trailing_token(bytes: &[u8]) -> Option<ResetToken>
     ensures { MatchOption result (length bytes.now < 16) (λ t. t.bytes ≡ last_16 bytes.now) }
 {
-    let bytes = *bytes.last_chunk()?;
-    Some(ResetToken { bytes })
+    if bytes.len() < 16 {
+        return None;
+    }
+    Some(last_16(bytes))
 }
 
 impl<'a> ConnectionIndex<'a> {
@@ -54,7 +65,7 @@ impl<'a> ConnectionIndex<'a> {
         ensures { option_map target_of result ≡ sender_route (index_state self.now) (seen received.now) }
     {
         let remote = received.datagram.addresses.remote;
-        let token = last_16(received.bytes)?;
+        let token = trailing_token(received.bytes)?;
         self.connection_reset_tokens
             .get(RemoteToken { remote, token })
             .map(RouteDatagramTo::Connection)
