@@ -11,7 +11,7 @@ use std::net::SocketAddr;
 use table::slot::Key;
 
 /// The 32-bit hash of a peer.
-fn hash_remote(remote: SocketAddr) -> u32
+pub fn hash_remote(remote: SocketAddr) -> u32
     ensures { result ≡ hash_remote remote }
 {
     match remote {

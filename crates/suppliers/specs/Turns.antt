@@ -12,6 +12,14 @@ use Rattle.records.specs.Same.{same_id_decides}
 use Rattle.supply.specs.Meaning.{Lawful, shifted}
 use Rattle.suppliers.specs.Lists.{all_of, list_fits, listed, in_turn}
 
+-- in a list of identifiers of one length, each has it
+all_of_at : (n : ℕ) (xs : List ConnectionId) (i : ℕ) (d : ConnectionId) → i < length xs → all_of n xs ≡ true → (get_or xs i d).len ≡ n
+all_of_at n xs i d h t = eqb-true _ _ (AllPass-from_list_all (λ x. x.len == n) xs t i d h)
+
+-- a list has the identifier at each of its places
+listed_at : (xs : List ConnectionId) (i : ℕ) (d : ConnectionId) → i < length xs → listed xs (slice_index_or xs i d) ≡ true
+listed_at xs i d h = let x = slice_index_or xs i d in list_any_at (λ y. same_id y x) xs i d h ((same_id_decides x x).1 refl)
+
 -- a list that fits keeps a generator's laws
 pub in_turn_lawful : (xs : List ConnectionId) (at : ℕ) → list_fits xs ≡ true → Lawful (in_turn xs at)
 in_turn_lawful xs at t =
@@ -21,8 +29,8 @@ in_turn_lawful xs at t =
     let inside : (i : ℕ) → (at + i) % length xs < length xs = λ i. mod-lt (at + i) some in
     record {
       short = (get_or xs 0 no_id).short;
-      sized = λ i. eqb-true _ _ (AllPass-from_list_all (λ x. x.len == (get_or xs 0 no_id).len) xs like _ no_id (inside i));
-      stays = λ i j h. let x = get_or xs ((at + i) % length xs) no_id in list_any_at (λ y. same_id y x) xs _ no_id (inside i) ((same_id_decides x x).1 refl);
+      sized = λ i. all_of_at _ xs _ no_id (inside i) like;
+      stays = λ i j h. listed_at xs _ no_id (inside i);
     }
 
 -- a search of a list, one identifier on
