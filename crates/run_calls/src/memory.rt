@@ -26,12 +26,10 @@ pub struct Storage {
 impl Storage {
     /// Memory for an endpoint with so many places for datagrams.
     pub fn new(heap: Global, places: usize) -> Result<Storage, AllocError> {
-        let mut connections = Vec::new(heap);
-        connections.resize_with(128, || None)?;
         Ok(Storage {
             places: vec![in heap; Place::default(); places]?,
             blocks: vec![in heap; [0; 1500]; places]?,
-            connections,
+            connections: vec![in heap; None; 128]?,
             handles: vec![in heap; 0; 128]?,
             slots: vec![in heap; 0; 64]?,
             connection_ids_initial: vec![in heap; Slot::Empty; 256]?,
