@@ -131,12 +131,12 @@ fn handle(heap: Global, words: &[&str], small: bool) -> Result<Option<OwnedCall>
         return Err(no_line(Form::Handle));
     };
     let n = number(n, Field::Length)?;
-    let datagram = datagram(heap, words)?;
-    let bytes = filled(heap, n, fill, tail)?;
-    let Some(datagram) = datagram else {
+    let Some(datagram) = datagram(heap, words)? else {
+        // No bytes are filled, but a fault of FILL or TAIL comes first.
+        filled(heap, 0, fill, tail)?;
         return Ok(None);
     };
-    let Some(bytes) = bytes else {
+    let Some(bytes) = filled(heap, n, fill, tail)? else {
         return no_bytes(n, datagram.first_len);
     };
     Ok(Some(Call::Handle(Arrival {
