@@ -66,3 +66,10 @@ speaks line = not (length line == 0) && not (slice_index line 0 == 35)
 -- the lines of a text that say something
 abbrev pub spoken : List ℕ → List (List ℕ)
 spoken text = filter speaks (lines text)
+
+-- a line that is lent: the same call, with the same bytes
+abbrev pub Lends : {Z : Type 0} → Option (call.Call (Arrival (Vec ℕ Z))) → Option (call.Call (Arrival (Bor (List ℕ)))) → Type 0
+Lends None None = Unit {0}
+Lends (Some (Handle a)) (Some (Handle b)) = (b.datagram ≡ a.datagram) × ((b.bytes.now ≡ vec_items a.bytes) × (b.small ≡ a.small))
+Lends (Some (Ignore a)) (Some (Ignore b)) = b ≡ a
+Lends read line = ⊥

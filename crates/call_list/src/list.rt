@@ -1,6 +1,6 @@
 ghost use Rattle.std.specs.Prelude.{◌≡◌, IfOk, drop, map};
 ghost use Rattle.std.specs.List.{AllByRecursion};
-ghost use Rattle.call_list.specs.Lines.{ReadInTurn, Short, spoken};
+ghost use Rattle.call_list.specs.Lines.{Lends, ReadInTurn, Short, spoken};
 ghost use Rattle.call_list.specs.declared.list.Numbered.{Numbered};
 
 use crate::call::call;
@@ -10,11 +10,29 @@ use crate::form::Form;
 use crate::set_up::SetUp;
 use crate::set_up_lines::{door, endpoint, generator, settings, signer, source};
 use crate::unread::Unread;
-use calls::call::{Arrival, Call};
+use calls::call::{Arrival, Call, LentCall};
 use std::alloc::{AllocError, Global};
 
 /// A call that owns its datagram's bytes.
 pub type OwnedCall = Call<Arrival<Vec<u8>>>;
+
+/// A call's line that borrows its datagram's bytes. `None` is one whose datagram cannot be brought.
+pub type Line<'a> = Option<LentCall<'a>>;
+
+/// A line that was read, lent.
+pub fn lend(read: &Option<OwnedCall>) -> Line<'_>
+    ensures { Lends read.now result }
+{
+    match read {
+        None => None,
+        Some(Call::Handle(arrival)) => Some(Call::Handle(Arrival {
+            datagram: arrival.datagram,
+            bytes: arrival.bytes.as_slice(),
+            small: arrival.small,
+        })),
+        Some(Call::Ignore(brought)) => Some(Call::Ignore(*brought)),
+    }
+}
 
 /// A call list as it was read.
 #[derive(Drop)]
