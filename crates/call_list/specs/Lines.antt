@@ -1,6 +1,8 @@
 -- What the words of a call's line bring.
-use Rattle.std.specs.Prelude.{◌≡◌, ℕ, ◌+◌, ◌%◌, ◌^◌, ◌≤◌, List, [], ◌∷◌, codes, Vec, vec_len, vec_items, Some, None, Option, slice_index_or}
+use Rattle.std.specs.Prelude.{◌≡◌, ℕ, ◌+◌, ◌%◌, ◌^◌, ◌≤◌, ◌==◌, ◌&&◌, Bool, not, List, [], ◌∷◌, codes, drop, length, map, Vec, vec_len, vec_items, Some, None, Option, slice_index, slice_index_or}
 use Rattle.std.specs.Borrow.{Bor}
+use Rattle.std.specs.List.{filter, slice_split}
+use Rattle.std.specs.Str.Lines.{lines}
 use Rattle.calls.specs.declared.call.Arrival.{Arrival}
 use Rattle.calls.specs.declared.call.Brought as brought
 use Rattle.calls.specs.declared.call.Brought.TheVariants.{Opened, Foreign}
@@ -19,7 +21,13 @@ Arrives P (Some (Handle a)) = P a.bytes
 Arrives P (Some (Ignore b)) = Unit {0}
 Arrives P None = Unit {0}
 
--- they are at most 65,535
+-- this holds of the attempt that a line's call brings, if it brings one
+abbrev pub Attempts : {A : Type 0} → (brought.Brought → Type 0) → Option (call.Call A) → Type 0
+Attempts P (Some (Handle a)) = Unit {0}
+Attempts P (Some (Ignore b)) = P b
+Attempts P None = Unit {0}
+
+-- the bytes are at most 65,535
 abbrev pub Short : {A Z : Type 0} → Option (call.Call (Arrival (Vec A Z))) → Type 0
 Short line = Arrives (λ bytes. vec_len bytes ≤ 65535) line
 
@@ -35,3 +43,33 @@ BytesBy n fill tail bytes =
 -- the bytes of a datagram, by the words of its line after the first
 abbrev pub BytesOf : {Z : Type 0} → List (Bor (List ℕ)) → Vec ℕ Z → Type 0
 BytesOf words bytes = BytesBy (read_on 0 (word_at words 4)) (word_at words 11) (word_at words 12) (vec_items bytes)
+
+-- the texts that words borrow
+abbrev pub texts : List (Bor (List ℕ)) → List (List ℕ)
+texts words = map (λ w. w.now) words
+
+-- what a line is read as: its words, which one space each parts, say the bytes or the attempt that its call brings
+abbrev pub ReadAs : {Z : Type 0} → ℕ → List ℕ → Option (call.Call (Arrival (Vec ℕ Z))) → Type 0
+ReadAs endpoint line read = (words : List (Bor (List ℕ))) × ((texts words ≡ slice_split (λ b. b == 32) line)
+    × (Arrives (BytesOf (drop 1 words)) read × Attempts (BroughtBy (word_at words 1) endpoint) read))
+
+-- so many lines are read, from the first on, each as what its own words bring
+abbrev pub ReadInTurn : {Z : Type 0} → ℕ → List (List ℕ) → List (Option (call.Call (Arrival (Vec ℕ Z)))) → Type 0
+ReadInTurn endpoint lines [] = Unit {0}
+ReadInTurn endpoint [] (read ∷ reads) = ⊥
+ReadInTurn endpoint (line ∷ lines) (read ∷ reads) = ReadAs endpoint line read × ReadInTurn endpoint lines reads
+
+-- a line says something if it is neither empty nor a comment
+abbrev pub speaks : List ℕ → Bool
+speaks line = not (length line == 0) && not (slice_index line 0 == 35)
+
+-- the lines of a text that say something
+abbrev pub spoken : List ℕ → List (List ℕ)
+spoken text = filter speaks (lines text)
+
+-- a line that is lent: the same call, with the same bytes
+abbrev pub Lends : {Z : Type 0} → Option (call.Call (Arrival (Vec ℕ Z))) → Option (call.Call (Arrival (Bor (List ℕ)))) → Type 0
+Lends None None = Unit {0}
+Lends (Some (Handle a)) (Some (Handle b)) = (b.datagram ≡ a.datagram) × ((b.bytes.now ≡ vec_items a.bytes) × (b.small ≡ a.small))
+Lends (Some (Ignore a)) (Some (Ignore b)) = b ≡ a
+Lends read line = ⊥

@@ -1,7 +1,7 @@
-ghost use Rattle.std.specs.Prelude.{◌≡◌, ◌≤◌, IfOk, IfSome, MatchOption, codes, min, vec_items, vec_len};
+ghost use Rattle.std.specs.Prelude.{◌≡◌, ◌≤◌, IfOk, IfSome, MatchOption, codes, drop, min, vec_items, vec_len};
 ghost use Rattle.words.specs.Words.{Decimal, read_on};
 ghost use Rattle.std.specs.declared.option.Option.TheVariants.{None};
-ghost use Rattle.call_list.specs.Lines.{Arrives, Short, BytesBy, BytesOf, BroughtBy};
+ghost use Rattle.call_list.specs.Lines.{Arrives, Attempts, Short, BytesBy, BytesOf, BroughtBy, word_at};
 
 use crate::address::{local, remote};
 use crate::fields::{bit, bytes, fixed, identifier, number};
@@ -125,18 +125,19 @@ fn filled(heap: Global, n: usize, fill: &str, tail: &str) -> Result<Option<Vec<u
 /// A `handle` line after its first word.
 fn handle(heap: Global, words: &[&str], small: bool) -> Result<Option<OwnedCall>, Unread>
     ensures bytes { IfOk result (Arrives (BytesOf words.now)) }
+    ensures attempt { IfOk result (Attempts (λ b. ⊥)) }
     ensures short { IfOk result Short }
 {
     let [_, _, _, _, n, _, _, _, _, _, _, fill, tail] = words else {
         return Err(no_line(Form::Handle));
     };
     let n = number(n, Field::Length)?;
-    let datagram = datagram(heap, words)?;
-    let bytes = filled(heap, n, fill, tail)?;
-    let Some(datagram) = datagram else {
+    let Some(datagram) = datagram(heap, words)? else {
+        // No bytes are filled, but a fault of FILL or TAIL comes first.
+        filled(heap, 0, fill, tail)?;
         return Ok(None);
     };
-    let Some(bytes) = bytes else {
+    let Some(bytes) = filled(heap, n, fill, tail)? else {
         return no_bytes(n, datagram.first_len);
     };
     Ok(Some(Call::Handle(Arrival {
@@ -158,7 +159,9 @@ fn brought(word: &str, endpoint: u32) -> Result<Brought, Unread>
 
 /// A call's line, as its words, for the endpoint with this number.
 pub fn call(heap: Global, words: &[&str], endpoint: u32) -> Result<Option<OwnedCall>, Unread>
-    ensures { IfOk result Short }
+    ensures bytes { IfOk result (Arrives (BytesOf (drop 1 words.now))) }
+    ensures attempt { IfOk result (Attempts (BroughtBy (word_at words.now 1) endpoint)) }
+    ensures short { IfOk result Short }
 {
     match words {
         ["handle", rest @ .., "small"] if rest.len() == 13 => handle(heap, rest, true),

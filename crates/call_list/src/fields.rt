@@ -1,4 +1,6 @@
-ghost use Rattle.std.specs.Prelude.{◌≡◌, [], ◌∷◌, IfOk, if◌then◌else◌, MatchOption, codes};
+ghost use Rattle.std.specs.Prelude.{◌≡◌, ◌<◌, ◌==◌, [], ◌∷◌, IfOk, if◌then◌else◌, MatchOption, codes};
+ghost use Rattle.std.specs.List.{slice_split};
+ghost use Rattle.call_list.specs.Lines.{texts};
 ghost use Rattle.records.specs.Ids.{id_bytes};
 ghost use Rattle.call_list.specs.Numerals.{Numeral};
 ghost use Rattle.words.specs.Words.{bytes_word, Long};
@@ -10,7 +12,9 @@ use std::alloc::{AllocError, Global};
 use words::words::{decimal, unhex};
 
 /// The words of a text that are parted by one character each.
-pub fn parts<'a>(heap: Global, text: &'a str, by: char) -> Result<Vec<&'a str>, AllocError> {
+pub fn parts<'a>(heap: Global, text: &'a str, by: char) -> Result<Vec<&'a str>, AllocError>
+    ensures { IfOk result (λ v. by < 128 → texts v.items ≡ slice_split (λ b. b == by) text.now) }
+{
     text.split(by).collect(heap)
 }
 

@@ -1,6 +1,7 @@
-ghost use Rattle.std.specs.Prelude.{IfOk};
+ghost use Rattle.std.specs.Prelude.{◌≡◌, IfOk, drop, map};
 ghost use Rattle.std.specs.List.{AllByRecursion};
-ghost use Rattle.call_list.specs.Lines.{Short};
+ghost use Rattle.call_list.specs.Lines.{Lends, ReadInTurn, Short, spoken};
+ghost use Rattle.call_list.specs.declared.list.Numbered.{Numbered};
 
 use crate::call::call;
 use crate::fault::{Failure, Fault, Trouble};
@@ -9,11 +10,29 @@ use crate::form::Form;
 use crate::set_up::SetUp;
 use crate::set_up_lines::{door, endpoint, generator, settings, signer, source};
 use crate::unread::Unread;
-use calls::call::{Arrival, Call};
+use calls::call::{Arrival, Call, LentCall};
 use std::alloc::{AllocError, Global};
 
 /// A call that owns its datagram's bytes.
 pub type OwnedCall = Call<Arrival<Vec<u8>>>;
+
+/// A call's line that borrows its datagram's bytes. `None` is one whose datagram cannot be brought.
+pub type Line<'a> = Option<LentCall<'a>>;
+
+/// A line that was read, lent.
+pub fn lend(read: &Option<OwnedCall>) -> Line<'_>
+    ensures { Lends read.now result }
+{
+    match read {
+        None => None,
+        Some(Call::Handle(arrival)) => Some(Call::Handle(Arrival {
+            datagram: arrival.datagram,
+            bytes: arrival.bytes.as_slice(),
+            small: arrival.small,
+        })),
+        Some(Call::Ignore(brought)) => Some(Call::Ignore(*brought)),
+    }
+}
 
 /// A call list as it was read.
 #[derive(Drop)]
@@ -49,7 +68,9 @@ impl Numbered<'_> {
 }
 
 /// The lines that are neither empty nor comments.
-fn speaking<'a>(heap: Global, text: &'a str) -> Result<Vec<Numbered<'a>>, AllocError> {
+fn speaking<'a>(heap: Global, text: &'a str) -> Result<Vec<Numbered<'a>>, AllocError>
+    ensures { IfOk result (λ v. map (λ (l : Numbered). l.text.now) v.items ≡ spoken text.now) }
+{
     text.lines()
         .enumerate()
         .filter(|(_, line)| !line.is_empty() && !line.starts_with('#'))
@@ -87,7 +108,8 @@ fn set_up(heap: Global, lines: &[Numbered]) -> Result<SetUp, Failure> {
 
 /// The set-up with the calls of these lines up to the first with a fault, and the fault.
 fn with_calls(heap: Global, set_up: SetUp, lines: &[Numbered]) -> Result<Parsed, Failure>
-    ensures { IfOk result (λ p. AllByRecursion Short p.calls.items) }
+    ensures read { IfOk result (λ p. ReadInTurn p.set_up.number (map (λ (l : Numbered). l.text.now) lines.now) p.calls.items) }
+    ensures short { IfOk result (λ p. AllByRecursion Short p.calls.items) }
 {
     let mut calls = Vec::new(heap);
     // A loop and not `try_collect`, since the calls before a fault are kept.
@@ -108,7 +130,8 @@ fn with_calls(heap: Global, set_up: SetUp, lines: &[Numbered]) -> Result<Parsed,
 
 /// Reads a call list: its set-up, and its calls up to the first line with a fault.
 pub fn parse(heap: Global, text: &str) -> Result<Parsed, Failure>
-    ensures { IfOk result (λ p. AllByRecursion Short p.calls.items) }
+    ensures read { IfOk result (λ p. ReadInTurn p.set_up.number (drop 6 (spoken text.now)) p.calls.items) }
+    ensures short { IfOk result (λ p. AllByRecursion Short p.calls.items) }
 {
     let lines = speaking(heap, text)?;
     let lines = lines.as_slice();

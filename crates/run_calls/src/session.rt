@@ -1,6 +1,6 @@
 use crate::memory::Storage;
 use call_list::answer::answer_line;
-use call_list::list::{OwnedCall, Parsed};
+use call_list::list::{OwnedCall, Parsed, lend};
 use call_list::set_up::SetUp;
 use calls::answer::Answer;
 use calls::call::{Arrival, Call, LentCall};
@@ -21,19 +21,13 @@ type Four = Suppliers<ListGenerator, Recorded, XorKey, RowDoor>;
 
 // A line that cannot be brought is a datagram without bytes: it is refused by 1 as well.
 fn lent(line: &Option<OwnedCall>) -> LentCall<'_> {
-    match line {
-        None => Call::Handle(Arrival {
+    lend(line).unwrap_or_else(|| {
+        Call::Handle(Arrival {
             datagram: Datagram::default(),
             bytes: &[],
             small: false,
-        }),
-        Some(Call::Handle(arrival)) => Call::Handle(Arrival {
-            datagram: arrival.datagram,
-            bytes: arrival.bytes.as_slice(),
-            small: arrival.small,
-        }),
-        Some(Call::Ignore(brought)) => Call::Ignore(*brought),
-    }
+        })
+    })
 }
 
 fn suppliers_of(

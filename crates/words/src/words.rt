@@ -67,6 +67,8 @@ pub fn fill_tail(bytes: &mut Vec<u8>, n: usize, fill: u8, tail: &[u8]) -> Result
 {
     let filling = n.saturating_sub(tail.len());
     let filled = bytes.len().checked_add(filling).ok_or(AllocError)?;
+    // Room for all of them at once: else a short tail would double what the filling took.
+    bytes.reserve(n.max(tail.len()))?;
     bytes.resize(filled, fill)?;
     bytes.extend_from_slice(tail)
 }
