@@ -42,7 +42,8 @@ impl<'a> Stack<'a, Place> {
         let mut kept = 0;
         // By index: no method of slices moves what passes a test to the front, in order and without a buffer.
         for i in 0..self.used {
-            if !items[i].is_of(slot) {
+            let other = !items[i].is_of(slot);
+            if other {
                 // A swap keeps every block named by one place.
                 items.swap(kept, i);
                 kept += 1;

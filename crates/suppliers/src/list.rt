@@ -1,4 +1,4 @@
-ghost use Rattle.std.specs.Prelude.{◌≡◌, ◌<◌, length, true, false, MatchResult, slice_index_or};
+ghost use Rattle.std.specs.Prelude.{◌≡◌, ◌%◌, ◌+◌, ◌<◌, length, true, false, MatchResult, slice_index_or};
 ghost use Rattle.records.specs.declared.cause.Cause.TheVariants.{SetUp};
 ghost use Rattle.records.specs.Ids.{no_id};
 ghost use Rattle.suppliers.specs.Lists.{list_fits, in_turn};
@@ -39,6 +39,14 @@ impl ListGenerator {
     }
 }
 
+/// The place after `at`, going round.
+fn place_after(at: usize, count: usize) -> usize
+    requires { at < count }
+    ensures { result ≡ (at + 1) % count }
+{
+    (at + 1) % count
+}
+
 impl ConnectionIdGenerator for ListGenerator {
     ghost means = { λ s. in_turn s.ids.items s.at };
 
@@ -47,7 +55,7 @@ impl ConnectionIdGenerator for ListGenerator {
     fn generate_cid(&mut self) -> ConnectionId {
         let ids = self.ids.as_slice();
         let id = ids[self.at];
-        self.at = (self.at + 1) % ids.len();
+        self.at = place_after(self.at, ids.len());
         id
     }
 
